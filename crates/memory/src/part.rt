@@ -1,0 +1,63 @@
+// Filling and copying, on any places of any slice: what lies past the end of a slice is left out.
+ghost use mathlib.Core.Path.{_≡_};
+ghost use Prim.Native.Nat.{min};
+ghost use lib.ListN.{length, drop};
+ghost use Rattle.memory.specs.Bytes.{zeros, overwrite, resize};
+
+fn least(a: usize, b: usize) -> usize
+    ensures { λ r. ⌜ r ≡ min a b ⌝ }
+{
+    if a < b { a } else { b }
+}
+
+// All of `dst` becomes zeros.
+pub fn fill(dst: &mut [u8])
+    ensures { λ _. ⌜ now (dst .exit) ≡ zeros (length (now (dst .entry))) ⌝ }
+{
+    let mut i: usize = 0;
+    while i < dst.len() {
+        dst[i] = 0;
+        i += 1;
+    }
+}
+
+// The `n` bytes from `at` on become zeros.
+pub fn zero(dst: &mut [u8], at: usize, n: usize)
+    ensures { λ _. ⌜ now (dst .exit) ≡ overwrite at (zeros n) (now (dst .entry)) ⌝ }
+{
+    if dst.len() <= at {
+        return;
+    }
+    let end = at + least(n, dst.len() - at);
+    fill(&mut dst[at..end]);
+}
+
+// `src` over the first bytes of `dst`.
+pub fn copy(dst: &mut [u8], src: &[u8])
+    ensures { λ _. ⌜ now (dst .exit) ≡ overwrite 0 (now (src .entry)) (now (dst .entry)) ⌝ }
+{
+    let n = least(dst.len(), src.len());
+    bytes::copy(&src[..n], dst);
+}
+
+// `src` over the bytes of `dst` from `at` on.
+pub fn write(dst: &mut [u8], at: usize, src: &[u8])
+    ensures { λ _. ⌜ now (dst .exit) ≡ overwrite at (now (src .entry)) (now (dst .entry)) ⌝ }
+{
+    if dst.len() <= at {
+        return;
+    }
+    copy(&mut dst[at..], src);
+}
+
+// The bytes of `src` from `at` on, with zeros past its end, become all of `dst`.
+pub fn read(dst: &mut [u8], src: &[u8], at: usize)
+    ensures { λ _. ⌜ now (dst .exit) ≡ resize (length (now (dst .entry))) (drop at (now (src .entry))) ⌝ }
+{
+    let from = least(at, src.len());
+    copy(dst, &src[from..]);
+    let have = src.len() - from;
+    if have < dst.len() {
+        fill(&mut dst[have..]);
+    }
+}
