@@ -1,5 +1,5 @@
 -- Pages of P bytes, for any P above 0: how many a size needs, the page that an offset lies in, and its place there.
-use mathlib.Core.Path.{_≡_, refl}
+use mathlib.Core.Path.{_≡_, refl, sym, ap, _∙_}
 use Prim.Native.Nat.{ℕ, zero, suc, _+_, _-_, _*_, _/_, _%_, _≤_, _<_}
 use native.Mathlib.Nat.{mod-lt, div-add-mod', div-eq-of-lt-le, le-div-iff-mul-le, le-mul-of-pos-right, mul-le-mul-right, add-mul, one-mul, suc-mul, pos-of-ne-zero}
 use native.Mathlib.Omega.{arith}
@@ -78,3 +78,15 @@ module _ (P : ℕ) (pos : 0 < P) where
   pub count-part : (n : ℕ) → (n % P ≡ 0 → ⊥) → count P n ≡ n / P + 1
   count-part n e = count-is (n / P + 1) n (omega (arith, page-hi n, add-mul (n / P) 1 P, one-mul P))
       (λ p h. let k : p ≤ n / P = omega arith in omega (arith, div-add-mod' n P, mul-le-mul-right P k, pos-of-ne-zero e))
+
+  -- whole pages and the pages of the rest
+  pub count-more : (q n : ℕ) → q * P ≤ n → q + count P (n - q * P) ≡ count P n
+  count-more q n h = sym (count-is (q + count P (n - q * P)) n (omega (arith, count-ge (n - q * P), add-mul q (count P (n - q * P)) P))
+      (λ p k. go p k (ltb p q) refl))
+    where
+      go : (p : ℕ) → p < q + count P (n - q * P) → (b : Bool) → ltb p q ≡ b → p * P < n
+      go p k true e = omega (arith, mul-le-mul-right P (ltb-true p q e), suc-mul p P)
+      go p k false e =
+          let r : p ≡ q + (p - q) = omega (arith, ltb-false p q e) in
+          let m : p * P ≡ q * P + (p - q) * P = ap (λ (x : ℕ). x * P) r ∙ add-mul q (p - q) P in
+          omega (arith, count-lt (p - q) (n - q * P) (omega (arith, ltb-false p q e)))

@@ -1,10 +1,13 @@
 -- Growth of the lent memory, in stable pages of S bytes.
-use Prim.Native.Nat.{ℕ, _+_, _-_, _*_, _/_}
+use mathlib.Core.Path.{_≡_, sym, _∙_}
+use Prim.Native.Nat.{ℕ, _+_, _-_, _*_, _/_, _≤_, _<_}
+use native.Mathlib.Nat.{le-trans, le-of-lt, mul-le-mul-right}
+use borrow.Author.Tests.{le-leb, lt-leb}
 use mathlib.Core.Bool.{Bool, true, false}
 use mathlib.Core.List.{List}
 use lib.ListN.{length}
 use lib.Dec.{leb}
-use Rattle.config.specs.Pages.{count}
+use Rattle.config.specs.Pages.{count, count-more, count-lt, count-ge}
 use Rattle.config.specs.declared.StablePages.{StablePages}
 use Rattle.config.specs.declared.refusal.Refusal.the-variants.{GrowFailed}
 use Rattle.memory.specs.declared.Growth.{Growth}
@@ -37,3 +40,30 @@ growTo S n end mem =
     (pick (leb (required S n end) (length mem / S))
     (outcome (Grown (stable (required S n end))) (overwrite (n * S) (zeros ((required S n end - n) * S)) mem))
     (outcome (Refused (GrowFailed (stable n) (stable (required S n end)))) mem))
+
+-- ## Laws
+
+module _ (S : ℕ) (pos : 0 < S) (n end : ℕ) (mem : List ℕ) where
+  -- the stable pages of the whole are required
+  pub required-is : n * S ≤ end → required S n end ≡ count S end
+  unfolding required
+  required-is h = count-more S pos n end h
+
+  pub grow-none : count S end ≤ n → growTo S n end mem ≡ outcome (Grown (stable n)) mem
+  unfolding growTo
+  grow-none h = rw (le-leb end (n * S) (le-trans (count-ge S pos end) (mul-le-mul-right S h)))
+
+  module _ (r : ℕ) (is : r ≡ count S end) (h : n < r) where
+    behind : n * S < end
+    behind = count-lt S pos n end (rw is at h)
+
+    needs : required S n end ≡ r
+    needs = required-is (le-of-lt behind) ∙ sym is
+
+    pub grow-more : r ≤ length mem / S → growTo S n end mem ≡ outcome (Grown (stable r)) (overwrite (n * S) (zeros ((r - n) * S)) mem)
+    unfolding growTo
+    grow-more fits = rw (lt-leb end (n * S) behind, needs, le-leb r (length mem / S) fits)
+
+    pub grow-refused : length mem / S < r → growTo S n end mem ≡ outcome (Refused (GrowFailed (stable n) (stable r))) mem
+    unfolding growTo
+    grow-refused full = rw (lt-leb end (n * S) behind, needs, lt-leb r (length mem / S) full)

@@ -166,3 +166,93 @@ overwrite-zeros n new = ext-getD 0 _ _ (length-overwrite 0 new (zeros n) ∙ len
         below i (length new)
         (λ lo. overwrite-in 0 new (zeros n) i (omega arith) (omega arith) m ∙ ap (λ (j : ℕ). getD new j 0) (omega arith) ∙ sym (resize-in n new i l))
         (λ hi. overwrite-hi 0 new (zeros n) i (omega arith) ∙ zeros-at n i ∙ sym (resize-in n new i l ∙ List·getD-eq-default new 0 hi)))
+
+-- a fill that has come to the end
+pub fill-end : (n : ℕ) (xs : List ℕ) → n ≡ length xs → replicate n 0 ++ drop n xs ≡ zeros (length xs)
+unfolding zeros
+fill-end n xs e = rw (e, drop-length xs, append-nil)
+
+-- what fits of new, over the front of xs
+pub overwrite-front : (n : ℕ) (new xs : List ℕ) → n ≡ min (length xs) (length new) → take n new ++ drop n xs ≡ overwrite 0 new xs
+unfolding overwrite
+overwrite-front n new xs e = below (length xs) (length new)
+    (λ lo.
+        let p : n ≡ length xs = omega arith in
+        let q : length xs - 0 ≡ length xs = omega arith in
+        rw (p, q, drop-length xs, drop-of-length-le xs {i = 0 + length new} (omega arith)))
+    (λ hi.
+        let p : n ≡ length new = omega arith in
+        let q : 0 + length new ≡ length new = omega arith in
+        rw (p, q, take-all (length xs - 0) new (omega arith), take-all (length new) new (omega arith)))
+
+-- zeros as far as xs reaches
+pub overwrite-few : (at k n : ℕ) (xs : List ℕ) → k ≡ min n (length xs - at) → overwrite at (zeros k) xs ≡ overwrite at (zeros n) xs
+overwrite-few at k n xs e = ext-getD 0 _ _ (length-overwrite at (zeros k) xs ∙ sym (length-overwrite at (zeros n) xs))
+    (λ i h.
+        let l : i < length xs = omega (arith, length-overwrite at (zeros k) xs) in
+        let a : length (zeros k) ≡ k = length-zeros k in
+        let b : length (zeros n) ≡ n = length-zeros n in
+        below i at
+        (λ lo. overwrite-lo at (zeros k) xs i lo ∙ sym (overwrite-lo at (zeros n) xs i lo))
+        (λ hi. below i (at + n)
+            (λ lo. overwrite-in at (zeros k) xs i hi (omega arith) l ∙ zeros-at k (i - at) ∙ sym (overwrite-in at (zeros n) xs i hi (omega arith) l ∙ zeros-at n (i - at)))
+            (λ past. overwrite-hi at (zeros k) xs i (omega arith) ∙ sym (overwrite-hi at (zeros n) xs i (omega arith)))))
+
+-- the end of a list, from a place that may lie past it
+pub tail-is : (l : List ℕ) (at from : ℕ) → from ≡ min at (length l) → take (length l - from) (drop from l) ≡ drop at l
+tail-is l at from e = take-all (length l - from) (drop from l) (simp length-drop (omega arith)) ∙ below at (length l)
+    (λ lo. let p : from ≡ at = omega arith in ap (λ (k : ℕ). drop k l) p)
+    (λ hi. drop-of-length-le l {i = from} (omega arith) ∙ sym (drop-of-length-le l hi))
+
+-- all of xs, with zeros behind a list that is shorter
+pub overwrite-long : (new xs : List ℕ) → length xs ≤ length new → overwrite 0 new xs ≡ resize (length xs) new
+overwrite-long new xs h = ext-getD 0 _ _ (length-overwrite 0 new xs ∙ sym (length-resize (length xs) new))
+    (λ i k.
+        let l : i < length xs = omega (arith, length-overwrite 0 new xs) in
+        overwrite-in 0 new xs i (omega arith) (omega arith) l ∙ ap (λ (j : ℕ). getD new j 0) {x = i - 0} {y = i} (omega arith) ∙ sym (resize-in (length xs) new i l))
+
+pub overwrite-padded : (new xs : List ℕ) → length new ≤ length xs → overwrite (length new) (zeros (length xs - length new)) (overwrite 0 new xs) ≡ resize (length xs) new
+overwrite-padded new xs h =
+    let z : List ℕ = zeros (length xs - length new) in
+    let n : length (new ++ z) ≡ length xs = length-append new z ∙ omega (arith, length-zeros (length xs - length new)) in
+    let p : 0 + length new ≡ length new = omega arith in
+    (rw p at (overwrite-join 0 new z xs)) ∙ overwrite-all (new ++ z) xs n
+    ∙ ext-getD 0 _ _ (n ∙ sym (length-resize (length xs) new))
+    (λ i k.
+        let l : i < length xs = omega (arith, n) in
+        below i (length new)
+        (λ lo. List·getD-append new z 0 i lo ∙ sym (resize-in (length xs) new i l))
+        (λ hi. append-at new z i hi ∙ zeros-at _ _ ∙ sym (resize-in (length xs) new i l ∙ List·getD-eq-default new 0 hi)))
+
+-- a part that was lent to be overwritten
+pub part-write : (at : ℕ) (new xs : List ℕ) → at ≤ length xs
+    → putMid at (length xs - at) xs (overwrite 0 new (take (length xs - at) (drop at xs))) ≡ overwrite at new xs
+part-write at new xs h =
+    let p : List ℕ = take (length xs - at) (drop at xs) in
+    let n : length p ≡ length xs - at = length-take (length xs - at) (drop at xs) ∙ omega (arith, length-drop at xs) in
+    let m : length (overwrite 0 new p) ≡ length xs - at = length-overwrite 0 new p ∙ n in
+    part-back at (length xs - at) xs (overwrite 0 new p) m (omega arith) ∙
+    ext-getD 0 _ _ (length-overwrite at (overwrite 0 new p) xs ∙ sym (length-overwrite at new xs))
+    (λ i k.
+        let l : i < length xs = omega (arith, length-overwrite at (overwrite 0 new p) xs) in
+        below i at
+        (λ lo. overwrite-lo at (overwrite 0 new p) xs i lo ∙ sym (overwrite-lo at new xs i lo))
+        (λ hi. overwrite-in at (overwrite 0 new p) xs i hi (omega arith) l ∙ below i (at + length new)
+            (λ lo. overwrite-in 0 new p (i - at) (omega arith) (omega arith) (omega arith)
+                ∙ ap (λ (j : ℕ). getD new j 0) {x = i - at - 0} {y = i - at} (omega arith) ∙ sym (overwrite-in at new xs i hi lo l))
+            (λ past. overwrite-hi 0 new p (i - at) (omega arith)
+                ∙ getD-take (length xs - at) (drop at xs) (i - at) 0 (omega arith) ∙ getD-drop at xs (i - at) 0
+                ∙ ap (λ (j : ℕ). getD xs j 0) {x = at + (i - at)} {y = i} (omega arith) ∙ sym (overwrite-hi at new xs i past))))
+
+pub length-part : (at k : ℕ) (xs : List ℕ) → at + k ≤ length xs → length (take k (drop at xs)) ≡ k
+length-part at k xs h = length-take k (drop at xs) ∙ omega (arith, length-drop at xs)
+
+-- a part that was lent to be filled
+pub part-filled : (at k : ℕ) (xs : List ℕ) → at + k ≤ length xs → putMid at k xs (zeros (length (take k (drop at xs)))) ≡ overwrite at (zeros k) xs
+part-filled at k xs h = rw (length-part at k xs h) (part-back at k xs (zeros k) (length-zeros k) h)
+
+-- a list copied over the front of xs, and the rest of xs lent to be filled
+pub part-padded : (new xs : List ℕ) → length new ≤ length xs
+    → putMid (length new) (length xs - length new) (overwrite 0 new xs) (zeros (length (take (length xs - length new) (drop (length new) (overwrite 0 new xs))))) ≡ resize (length xs) new
+part-padded new xs h =
+    part-filled (length new) (length xs - length new) (overwrite 0 new xs) (omega (arith, length-overwrite 0 new xs)) ∙ overwrite-padded new xs h

@@ -6,7 +6,7 @@ pub use part::copy;
 pub use part::fill;
 pub use part::read;
 pub use part::write;
-pub use part::zero;
+pub use part::fill_at;
 
 use config::Refusal;
 use config::StablePages;

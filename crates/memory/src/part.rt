@@ -22,7 +22,7 @@ pub fn fill(dst: &mut [u8])
 }
 
 // The `n` bytes from `at` on become zeros.
-pub fn zero(dst: &mut [u8], at: usize, n: usize)
+pub fn fill_at(dst: &mut [u8], at: usize, n: usize)
     ensures { λ _. ⌜ now (dst .exit) ≡ overwrite at (zeros n) (now (dst .entry)) ⌝ }
 {
     if dst.len() <= at {
