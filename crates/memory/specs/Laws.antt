@@ -93,14 +93,14 @@ module _ (at : ℕ) (new xs : List ℕ) where
     unfolding overwrite
     overwrite-hi h = below i (length xs)
         (λ lo.
-            let front : length (take at xs) ≡ at = length-take at xs ∙ omega arith in
-            let mid : length (take (length xs - at) new) ≡ length new = length-take (length xs - at) new ∙ omega arith in
-            append-at (take at xs) _ i (omega arith)
-            ∙ ap (λ (j : ℕ). getD (take (length xs - at) new ++ drop (at + length new) xs) (i - j) 0) front
-            ∙ append-at (take (length xs - at) new) _ (i - at) (omega arith)
-            ∙ ap (λ (j : ℕ). getD (drop (at + length new) xs) (i - at - j) 0) mid
-            ∙ getD-drop (at + length new) xs (i - at - length new) 0
-            ∙ ap (λ (j : ℕ). getD xs j 0) (omega arith))
+        let front : length (take at xs) ≡ at = length-take at xs ∙ omega arith in
+        let mid : length (take (length xs - at) new) ≡ length new = length-take (length xs - at) new ∙ omega arith in
+        append-at (take at xs) _ i (omega arith)
+        ∙ ap (λ (j : ℕ). getD (take (length xs - at) new ++ drop (at + length new) xs) (i - j) 0) front
+        ∙ append-at (take (length xs - at) new) _ (i - at) (omega arith)
+        ∙ ap (λ (j : ℕ). getD (drop (at + length new) xs) (i - at - j) 0) mid
+        ∙ getD-drop (at + length new) xs (i - at - length new) 0
+        ∙ ap (λ (j : ℕ). getD xs j 0) (omega arith))
         (λ hi. List·getD-eq-default (overwrite at new xs) 0 (omega (arith, length-overwrite)) ∙ sym (List·getD-eq-default xs 0 hi))
 
 -- nothing is written past the end
@@ -116,20 +116,20 @@ overwrite-nil at xs = ext-getD 0 _ _ (length-overwrite at [] xs)
 pub overwrite-join : (at : ℕ) (a b xs : List ℕ) → overwrite (at + length a) b (overwrite at a xs) ≡ overwrite at (a ++ b) xs
 overwrite-join at a b xs = ext-getD 0 _ _ (length-overwrite (at + length a) b (overwrite at a xs) ∙ length-overwrite at a xs ∙ sym (length-overwrite at (a ++ b) xs))
     (λ i k.
-        let l : i < length xs = omega (arith, length-overwrite (at + length a) b (overwrite at a xs), length-overwrite at a xs) in
-        let m : i < length (overwrite at a xs) = omega (arith, length-overwrite at a xs) in
-        let n : length (a ++ b) ≡ length a + length b = length-append a b in
-        below i at
-        (λ lo. overwrite-lo (at + length a) b (overwrite at a xs) i (omega arith) ∙ overwrite-lo at a xs i lo ∙ sym (overwrite-lo at (a ++ b) xs i lo))
-        (λ hi. below i (at + length a)
-            (λ lo. overwrite-lo (at + length a) b (overwrite at a xs) i lo ∙ overwrite-in at a xs i hi lo l
-                ∙ sym (List·getD-append a b 0 (i - at) (omega arith)) ∙ sym (overwrite-in at (a ++ b) xs i hi (omega arith) l))
-            (λ up. below i (at + length a + length b)
-                (λ lo. overwrite-in (at + length a) b (overwrite at a xs) i up lo m
-                    ∙ ap (λ (j : ℕ). getD b j 0) (omega arith) ∙ sym (append-at a b (i - at) (omega arith))
-                    ∙ sym (overwrite-in at (a ++ b) xs i hi (omega arith) l))
-                (λ past. overwrite-hi (at + length a) b (overwrite at a xs) i past ∙ overwrite-hi at a xs i up
-                    ∙ sym (overwrite-hi at (a ++ b) xs i (omega arith))))))
+    let l : i < length xs = omega (arith, length-overwrite (at + length a) b (overwrite at a xs), length-overwrite at a xs) in
+    let m : i < length (overwrite at a xs) = omega (arith, length-overwrite at a xs) in
+    let n : length (a ++ b) ≡ length a + length b = length-append a b in
+    below i at
+    (λ lo. overwrite-lo (at + length a) b (overwrite at a xs) i (omega arith) ∙ overwrite-lo at a xs i lo ∙ sym (overwrite-lo at (a ++ b) xs i lo))
+    (λ hi. below i (at + length a)
+    (λ lo. overwrite-lo (at + length a) b (overwrite at a xs) i lo ∙ overwrite-in at a xs i hi lo l
+    ∙ sym (List·getD-append a b 0 (i - at) (omega arith)) ∙ sym (overwrite-in at (a ++ b) xs i hi (omega arith) l))
+    (λ up. below i (at + length a + length b)
+    (λ lo. overwrite-in (at + length a) b (overwrite at a xs) i up lo m
+    ∙ ap (λ (j : ℕ). getD b j 0) (omega arith) ∙ sym (append-at a b (i - at) (omega arith))
+    ∙ sym (overwrite-in at (a ++ b) xs i hi (omega arith) l))
+    (λ past. overwrite-hi (at + length a) b (overwrite at a xs) i past ∙ overwrite-hi at a xs i up
+    ∙ sym (overwrite-hi at (a ++ b) xs i (omega arith))))))
 
 -- a part that was lent and comes back
 pub part-back : (at k : ℕ) (xs new : List ℕ) → length new ≡ k → at + k ≤ length xs → putMid at k xs new ≡ overwrite at new xs
@@ -142,30 +142,30 @@ part-back at k xs new l h =
 pub overwrite-cut : (at n : ℕ) (new xs : List ℕ) → length xs ≤ at + n → overwrite at (take n new) xs ≡ overwrite at new xs
 overwrite-cut at n new xs h = ext-getD 0 _ _ (length-overwrite at (take n new) xs ∙ sym (length-overwrite at new xs))
     (λ i k.
-        let l : i < length xs = omega (arith, length-overwrite at (take n new) xs) in
-        let m : length (take n new) ≡ min n (length new) = length-take n new in
-        below i at
-        (λ lo. overwrite-lo at (take n new) xs i lo ∙ sym (overwrite-lo at new xs i lo))
-        (λ hi. below i (at + length new)
-            (λ lo. overwrite-in at (take n new) xs i hi (omega arith) l ∙ getD-take n new (i - at) 0 (omega arith) ∙ sym (overwrite-in at new xs i hi lo l))
-            (λ past. overwrite-hi at (take n new) xs i (omega arith) ∙ sym (overwrite-hi at new xs i past))))
+    let l : i < length xs = omega (arith, length-overwrite at (take n new) xs) in
+    let m : length (take n new) ≡ min n (length new) = length-take n new in
+    below i at
+    (λ lo. overwrite-lo at (take n new) xs i lo ∙ sym (overwrite-lo at new xs i lo))
+    (λ hi. below i (at + length new)
+    (λ lo. overwrite-in at (take n new) xs i hi (omega arith) l ∙ getD-take n new (i - at) 0 (omega arith) ∙ sym (overwrite-in at new xs i hi lo l))
+    (λ past. overwrite-hi at (take n new) xs i (omega arith) ∙ sym (overwrite-hi at new xs i past))))
 
 -- all of xs
 pub overwrite-all : (new xs : List ℕ) → length new ≡ length xs → overwrite 0 new xs ≡ new
 overwrite-all new xs e = ext-getD 0 _ _ (length-overwrite 0 new xs ∙ sym e)
     (λ i k.
-        let l : i < length xs = omega (arith, length-overwrite 0 new xs) in
-        overwrite-in 0 new xs i (omega arith) (omega arith) l ∙ ap (λ (j : ℕ). getD new j 0) (omega arith))
+    let l : i < length xs = omega (arith, length-overwrite 0 new xs) in
+    overwrite-in 0 new xs i (omega arith) (omega arith) l ∙ ap (λ (j : ℕ). getD new j 0) (omega arith))
 
 -- over zeros, from the first on
 pub overwrite-zeros : (n : ℕ) (new : List ℕ) → overwrite 0 new (zeros n) ≡ resize n new
 overwrite-zeros n new = ext-getD 0 _ _ (length-overwrite 0 new (zeros n) ∙ length-zeros n ∙ sym (length-resize n new))
     (λ i k.
-        let l : i < n = omega (arith, length-overwrite 0 new (zeros n), length-zeros n) in
-        let m : i < length (zeros n) = omega (arith, length-zeros n) in
-        below i (length new)
-        (λ lo. overwrite-in 0 new (zeros n) i (omega arith) (omega arith) m ∙ ap (λ (j : ℕ). getD new j 0) (omega arith) ∙ sym (resize-in n new i l))
-        (λ hi. overwrite-hi 0 new (zeros n) i (omega arith) ∙ zeros-at n i ∙ sym (resize-in n new i l ∙ List·getD-eq-default new 0 hi)))
+    let l : i < n = omega (arith, length-overwrite 0 new (zeros n), length-zeros n) in
+    let m : i < length (zeros n) = omega (arith, length-zeros n) in
+    below i (length new)
+    (λ lo. overwrite-in 0 new (zeros n) i (omega arith) (omega arith) m ∙ ap (λ (j : ℕ). getD new j 0) (omega arith) ∙ sym (resize-in n new i l))
+    (λ hi. overwrite-hi 0 new (zeros n) i (omega arith) ∙ zeros-at n i ∙ sym (resize-in n new i l ∙ List·getD-eq-default new 0 hi)))
 
 -- a fill that has come to the end
 pub fill-end : (n : ℕ) (xs : List ℕ) → n ≡ length xs → replicate n 0 ++ drop n xs ≡ zeros (length xs)
@@ -177,26 +177,26 @@ pub overwrite-front : (n : ℕ) (new xs : List ℕ) → n ≡ min (length xs) (l
 unfolding overwrite
 overwrite-front n new xs e = below (length xs) (length new)
     (λ lo.
-        let p : n ≡ length xs = omega arith in
-        let q : length xs - 0 ≡ length xs = omega arith in
-        rw (p, q, drop-length xs, drop-of-length-le xs {i = 0 + length new} (omega arith)))
+    let p : n ≡ length xs = omega arith in
+    let q : length xs - 0 ≡ length xs = omega arith in
+    rw (p, q, drop-length xs, drop-of-length-le xs {i = 0 + length new} (omega arith)))
     (λ hi.
-        let p : n ≡ length new = omega arith in
-        let q : 0 + length new ≡ length new = omega arith in
-        rw (p, q, take-all (length xs - 0) new (omega arith), take-all (length new) new (omega arith)))
+    let p : n ≡ length new = omega arith in
+    let q : 0 + length new ≡ length new = omega arith in
+    rw (p, q, take-all (length xs - 0) new (omega arith), take-all (length new) new (omega arith)))
 
 -- zeros as far as xs reaches
 pub overwrite-few : (at k n : ℕ) (xs : List ℕ) → k ≡ min n (length xs - at) → overwrite at (zeros k) xs ≡ overwrite at (zeros n) xs
 overwrite-few at k n xs e = ext-getD 0 _ _ (length-overwrite at (zeros k) xs ∙ sym (length-overwrite at (zeros n) xs))
     (λ i h.
-        let l : i < length xs = omega (arith, length-overwrite at (zeros k) xs) in
-        let a : length (zeros k) ≡ k = length-zeros k in
-        let b : length (zeros n) ≡ n = length-zeros n in
-        below i at
-        (λ lo. overwrite-lo at (zeros k) xs i lo ∙ sym (overwrite-lo at (zeros n) xs i lo))
-        (λ hi. below i (at + n)
-            (λ lo. overwrite-in at (zeros k) xs i hi (omega arith) l ∙ zeros-at k (i - at) ∙ sym (overwrite-in at (zeros n) xs i hi (omega arith) l ∙ zeros-at n (i - at)))
-            (λ past. overwrite-hi at (zeros k) xs i (omega arith) ∙ sym (overwrite-hi at (zeros n) xs i (omega arith)))))
+    let l : i < length xs = omega (arith, length-overwrite at (zeros k) xs) in
+    let a : length (zeros k) ≡ k = length-zeros k in
+    let b : length (zeros n) ≡ n = length-zeros n in
+    below i at
+    (λ lo. overwrite-lo at (zeros k) xs i lo ∙ sym (overwrite-lo at (zeros n) xs i lo))
+    (λ hi. below i (at + n)
+    (λ lo. overwrite-in at (zeros k) xs i hi (omega arith) l ∙ zeros-at k (i - at) ∙ sym (overwrite-in at (zeros n) xs i hi (omega arith) l ∙ zeros-at n (i - at)))
+    (λ past. overwrite-hi at (zeros k) xs i (omega arith) ∙ sym (overwrite-hi at (zeros n) xs i (omega arith)))))
 
 -- the end of a list, from a place that may lie past it
 pub tail-is : (l : List ℕ) (at from : ℕ) → from ≡ min at (length l) → take (length l - from) (drop from l) ≡ drop at l
@@ -208,8 +208,8 @@ tail-is l at from e = take-all (length l - from) (drop from l) (simp length-drop
 pub overwrite-long : (new xs : List ℕ) → length xs ≤ length new → overwrite 0 new xs ≡ resize (length xs) new
 overwrite-long new xs h = ext-getD 0 _ _ (length-overwrite 0 new xs ∙ sym (length-resize (length xs) new))
     (λ i k.
-        let l : i < length xs = omega (arith, length-overwrite 0 new xs) in
-        overwrite-in 0 new xs i (omega arith) (omega arith) l ∙ ap (λ (j : ℕ). getD new j 0) {x = i - 0} {y = i} (omega arith) ∙ sym (resize-in (length xs) new i l))
+    let l : i < length xs = omega (arith, length-overwrite 0 new xs) in
+    overwrite-in 0 new xs i (omega arith) (omega arith) l ∙ ap (λ (j : ℕ). getD new j 0) {x = i - 0} {y = i} (omega arith) ∙ sym (resize-in (length xs) new i l))
 
 pub overwrite-padded : (new xs : List ℕ) → length new ≤ length xs → overwrite (length new) (zeros (length xs - length new)) (overwrite 0 new xs) ≡ resize (length xs) new
 overwrite-padded new xs h =
@@ -219,10 +219,10 @@ overwrite-padded new xs h =
     (rw p at (overwrite-join 0 new z xs)) ∙ overwrite-all (new ++ z) xs n
     ∙ ext-getD 0 _ _ (n ∙ sym (length-resize (length xs) new))
     (λ i k.
-        let l : i < length xs = omega (arith, n) in
-        below i (length new)
-        (λ lo. List·getD-append new z 0 i lo ∙ sym (resize-in (length xs) new i l))
-        (λ hi. append-at new z i hi ∙ zeros-at _ _ ∙ sym (resize-in (length xs) new i l ∙ List·getD-eq-default new 0 hi)))
+    let l : i < length xs = omega (arith, n) in
+    below i (length new)
+    (λ lo. List·getD-append new z 0 i lo ∙ sym (resize-in (length xs) new i l))
+    (λ hi. append-at new z i hi ∙ zeros-at _ _ ∙ sym (resize-in (length xs) new i l ∙ List·getD-eq-default new 0 hi)))
 
 -- a part that was lent to be overwritten
 pub part-write : (at : ℕ) (new xs : List ℕ) → at ≤ length xs
@@ -234,15 +234,15 @@ part-write at new xs h =
     part-back at (length xs - at) xs (overwrite 0 new p) m (omega arith) ∙
     ext-getD 0 _ _ (length-overwrite at (overwrite 0 new p) xs ∙ sym (length-overwrite at new xs))
     (λ i k.
-        let l : i < length xs = omega (arith, length-overwrite at (overwrite 0 new p) xs) in
-        below i at
-        (λ lo. overwrite-lo at (overwrite 0 new p) xs i lo ∙ sym (overwrite-lo at new xs i lo))
-        (λ hi. overwrite-in at (overwrite 0 new p) xs i hi (omega arith) l ∙ below i (at + length new)
-            (λ lo. overwrite-in 0 new p (i - at) (omega arith) (omega arith) (omega arith)
-                ∙ ap (λ (j : ℕ). getD new j 0) {x = i - at - 0} {y = i - at} (omega arith) ∙ sym (overwrite-in at new xs i hi lo l))
-            (λ past. overwrite-hi 0 new p (i - at) (omega arith)
-                ∙ getD-take (length xs - at) (drop at xs) (i - at) 0 (omega arith) ∙ getD-drop at xs (i - at) 0
-                ∙ ap (λ (j : ℕ). getD xs j 0) {x = at + (i - at)} {y = i} (omega arith) ∙ sym (overwrite-hi at new xs i past))))
+    let l : i < length xs = omega (arith, length-overwrite at (overwrite 0 new p) xs) in
+    below i at
+    (λ lo. overwrite-lo at (overwrite 0 new p) xs i lo ∙ sym (overwrite-lo at new xs i lo))
+    (λ hi. overwrite-in at (overwrite 0 new p) xs i hi (omega arith) l ∙ below i (at + length new)
+    (λ lo. overwrite-in 0 new p (i - at) (omega arith) (omega arith) (omega arith)
+    ∙ ap (λ (j : ℕ). getD new j 0) {x = i - at - 0} {y = i - at} (omega arith) ∙ sym (overwrite-in at new xs i hi lo l))
+    (λ past. overwrite-hi 0 new p (i - at) (omega arith)
+    ∙ getD-take (length xs - at) (drop at xs) (i - at) 0 (omega arith) ∙ getD-drop at xs (i - at) 0
+    ∙ ap (λ (j : ℕ). getD xs j 0) {x = at + (i - at)} {y = i} (omega arith) ∙ sym (overwrite-hi at new xs i past))))
 
 pub length-part : (at k : ℕ) (xs : List ℕ) → at + k ≤ length xs → length (take k (drop at xs)) ≡ k
 length-part at k xs h = length-take k (drop at xs) ∙ omega (arith, length-drop at xs)

@@ -1,2 +1,6 @@
 pub mod Words
+pub mod Fnv
 pub mod Runs
+pub mod Block
+pub mod BlockLaws
+pub mod Stored

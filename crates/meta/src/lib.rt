@@ -1,4 +1,14 @@
 // The superblock of an image, and its checksum.
+mod fnv;
+mod superblock;
+mod word;
+
+pub use fnv::FNV_OFFSET_BASIS;
+pub use fnv::fnv1a64;
+pub use fnv::fold_fnv1a64;
+pub use superblock::Superblock;
+pub use word::read_word;
+pub use word::write_word;
 
 // Pages from `start` up to, not including, `end`, that are zeros.
 pub struct ZeroExtent {

@@ -22,8 +22,7 @@ copied : (r : tie.After-slice-known2) → let s = r .before .before .before .bef
     × (r .before .before .copy .last .0 ≡ overwrite 0 (drop (s .at) (s .src .now)) (s .dst .now))
 copied r =
     let s = r .before .before .before .before .before .before .before .before .args in
-    let n = r .before .before .before .before .before .least in
-    (
+    let n = r .before .before .before .before .before .least in (
       length-drop (s .at) (s .src .now) ∙ omega (arith, n .ensures),
       rw (tail-is (s .src .now) (s .at) (n .result) (n .ensures)) at (r .before .before .copy .ensures),
     )

@@ -1,0 +1,221 @@
+// The superblock by value, its encoding, and its store.
+ghost use mathlib.Core.Path.{_≡_};
+ghost use mathlib.Core.List.{[]};
+ghost use Prim.Native.Nat.{ℕ, _+_, _*_, _≤_, _<_, min};
+ghost use lib.ListN.{length, drop};
+ghost use Rattle.memory.specs.Bytes.{zeros, overwrite};
+ghost use Rattle.meta.specs.Words.{words};
+use crate::word::read_word;
+use crate::word::write_word;
+
+// The zero runs are not among the fields: they stay in the bytes, or in a list of numbers.
+pub struct Superblock {
+    // "ICSQLITE", read as a little-endian number
+    pub magic: u64,
+    pub version: u32,
+    pub sqlite_page_size: u32,
+    pub db_size: u64,
+    pub schema_version: u64,
+    pub last_tx_id: u64,
+    pub flags: u64,
+    pub checksum: u64,
+    pub import_expected_checksum: u64,
+    pub import_written_until: u64,
+    pub import_total_size: u64,
+    pub import_base_offset: u64,
+    pub checksum_refresh_offset: u64,
+    pub checksum_refresh_hash: u64,
+    pub checksum_refresh_tx_id: u64,
+    pub db_base_offset: u64,
+    pub page_table_offset: u64,
+    pub page_count: u64,
+    pub layout_version: u64,
+    pub zero_extent_count: u64,
+    pub meta_checksum: u64,
+}
+
+ghost use Rattle.meta.specs.Block.{fieldsOf, fieldsIn, fieldOffset, blockBytes, encodedLen, sealedBy, checksumOf};
+ghost use Rattle.meta.specs.Block.{decode as decoded};
+ghost use Rattle.meta.specs.Block.{encode as encoded};
+ghost use Rattle.meta.specs.Block.{seal as sealed};
+ghost use Rattle.meta.specs.Block.{fresh as freshBlock};
+ghost use Rattle.meta.specs.Block.{storeIn};
+ghost use Rattle.meta.specs.Stored.{outcome};
+
+// Where each 64-bit field lies, in the order of `fields`.
+const FIELD_OFFSETS: [usize; 18] = [
+    16,
+    24,
+    32,
+    40,
+    48,
+    56,
+    64,
+    72,
+    80,
+    88,
+    96,
+    104,
+    112,
+    120,
+    128,
+    136,
+    144,
+    152,
+];
+
+fn field_offset(k: usize) -> usize
+    requires { ⌜ k < 18 ⌝ }
+    ensures { λ r. ⌜ r ≡ fieldOffset k ⌝ }
+{
+    FIELD_OFFSETS[k]
+}
+
+fn write_fields(out: &mut [u8], fields: &[u64])
+    requires { ⌜ (160 ≤ length (now out)) × (length (now fields) ≡ 18) ⌝ }
+    ensures { λ _. ⌜ now (out .exit) ≡ overwrite 16 (words (now (fields .entry))) (now (out .entry)) ⌝ }
+{
+    let mut k: usize = 0;
+    while k < 18 {
+        write_word(out, field_offset(k), fields[k]);
+        k += 1;
+    }
+}
+
+fn read_fields(bytes: &[u8]) -> [u64; 18]
+    requires { ⌜ 160 ≤ length (now bytes) ⌝ }
+    ensures { λ r. ⌜ r ≡ fieldsIn (now (bytes .entry)) ⌝ }
+{
+    let mut out = [0u64; 18];
+    let mut k: usize = 0;
+    while k < 18 {
+        out[k] = read_word(bytes, field_offset(k));
+        k += 1;
+    }
+    out
+}
+
+// Numbers go one behind the other to a place.
+fn write_words(out: &mut [u8], at: usize, numbers: &[u64])
+    requires { ⌜ at + length (now numbers) * 8 ≤ length (now out) ⌝ }
+    ensures { λ _. ⌜ now (out .exit) ≡ overwrite at (words (now (numbers .entry))) (now (out .entry)) ⌝ }
+{
+    let mut k: usize = 0;
+    while k < numbers.len() {
+        write_word(out, at + k * 8, numbers[k]);
+        k += 1;
+    }
+}
+
+fn least(a: u64, b: u64) -> u64
+    ensures { λ r. ⌜ r ≡ min a b ⌝ }
+{
+    if a < b { a } else { b }
+}
+
+impl Superblock {
+    pub const MAGIC: u64 = 0x4554_494c_5153_4349;
+
+    pub const VERSION: u32 = 8;
+
+    pub const LAYOUT_VERSION: u64 = 8;
+
+    pub const MAX_ZERO_EXTENTS: u64 = 1_024;
+
+    pub const EXTENTS_OFFSET: usize = 160;
+
+    pub const ENCODED_LEN: usize = 16_544;
+
+    pub const FLAG_IMPORTING: u64 = 1;
+
+    pub const FLAG_CHECKSUM_STALE: u64 = 2;
+
+    pub const FLAG_CHECKSUM_REFRESHING: u64 = 4;
+
+    fn fields(self) -> [u64; 18]
+        ensures { λ r. ⌜ r ≡ fieldsOf self ⌝ }
+    {
+        [
+            self.db_size,
+            self.schema_version,
+            self.last_tx_id,
+            self.flags,
+            self.checksum,
+            self.import_expected_checksum,
+            self.import_written_until,
+            self.import_total_size,
+            self.import_base_offset,
+            self.checksum_refresh_offset,
+            self.checksum_refresh_hash,
+            self.checksum_refresh_tx_id,
+            self.db_base_offset,
+            self.page_table_offset,
+            self.page_count,
+            self.layout_version,
+            self.zero_extent_count,
+            self.meta_checksum,
+        ]
+    }
+
+    pub fn encoded_len(self) -> usize
+        ensures { λ r. ⌜ r ≡ encodedLen self ⌝ }
+    {
+        let runs = least(self.zero_extent_count, Superblock::MAX_ZERO_EXTENTS);
+        Superblock::EXTENTS_OFFSET + (runs as usize) * 16
+    }
+
+    // The block's bytes over those of an array.
+    pub fn encode(self, runs: &[u64], out: &mut [u8])
+        requires { ⌜ length (now out) ≡ 16544 ⌝ }
+        ensures { λ _. ⌜ now (out .exit) ≡ overwrite 0 (blockBytes self (now (runs .entry))) (now (out .entry)) ⌝ }
+    {
+        let fields = self.fields();
+        let sizes = (self.version as u64) + (self.sqlite_page_size as u64) * 0x1_0000_0000;
+        write_word(out, 0, self.magic);
+        write_word(out, 8, sizes);
+        write_fields(out, &fields);
+        let fit = least(runs.len() as u64, 2 * Superblock::MAX_ZERO_EXTENTS) as usize;
+        write_words(out, Superblock::EXTENTS_OFFSET, &runs[..fit]);
+    }
+
+    // The block in the first bytes of a slice.
+    pub fn decode(bytes: &[u8]) -> Superblock
+        requires { ⌜ 160 ≤ length (now bytes) ⌝ }
+        ensures { λ r. ⌜ r ≡ decoded (now (bytes .entry)) ⌝ }
+    {
+        let f = read_fields(bytes);
+        let sizes = read_word(bytes, 8);
+        Superblock {
+            magic: read_word(bytes, 0),
+            version: (sizes % 0x1_0000_0000) as u32,
+            sqlite_page_size: (sizes / 0x1_0000_0000) as u32,
+            db_size: f[0],
+            schema_version: f[1],
+            last_tx_id: f[2],
+            flags: f[3],
+            checksum: f[4],
+            import_expected_checksum: f[5],
+            import_written_until: f[6],
+            import_total_size: f[7],
+            import_base_offset: f[8],
+            checksum_refresh_offset: f[9],
+            checksum_refresh_hash: f[10],
+            checksum_refresh_tx_id: f[11],
+            db_base_offset: f[12],
+            page_table_offset: f[13],
+            page_count: f[14],
+            layout_version: f[15],
+            zero_extent_count: f[16],
+            meta_checksum: f[17],
+        }
+    }
+
+    fn sealed_by(self, checksum: u64) -> Superblock
+        ensures { λ r. ⌜ r ≡ sealedBy checksum self ⌝ }
+    {
+        let mut out = self;
+        out.version = Superblock::VERSION;
+        out.meta_checksum = checksum;
+        out
+    }
+}
