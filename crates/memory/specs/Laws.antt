@@ -256,3 +256,25 @@ pub part-padded : (new xs : List ℕ) → length new ≤ length xs
     → putMid (length new) (length xs - length new) (overwrite 0 new xs) (zeros (length (take (length xs - length new) (drop (length new) (overwrite 0 new xs))))) ≡ resize (length xs) new
 part-padded new xs h =
     part-filled (length new) (length xs - length new) (overwrite 0 new xs) (omega (arith, length-overwrite 0 new xs)) ∙ overwrite-padded new xs h
+
+-- a part in the middle of a list that was brought to a length
+pub resize-patch : (n at : ℕ) (a old new r : List ℕ) → length a ≡ at → length new ≡ length old → overwrite at new (resize n (a ++ (old ++ r))) ≡ resize n (a ++ (new ++ r))
+resize-patch n at a old new r e f = ext-getD 0 _ _ (length-overwrite at new (resize n (a ++ (old ++ r))) ∙ length-resize n (a ++ (old ++ r)) ∙ sym (length-resize n (a ++ (new ++ r))))
+    (λ i h.
+    let j : i < n = omega (arith, length-overwrite at new (resize n (a ++ (old ++ r))), length-resize n (a ++ (old ++ r))) in
+    let l : i < length (resize n (a ++ (old ++ r))) = omega (arith, length-resize n (a ++ (old ++ r))) in
+    let was : getD (resize n (a ++ (old ++ r))) i 0 ≡ getD (a ++ (old ++ r)) i 0 = resize-in n (a ++ (old ++ r)) i j in
+    let is : getD (resize n (a ++ (new ++ r))) i 0 ≡ getD (a ++ (new ++ r)) i 0 = resize-in n (a ++ (new ++ r)) i j in
+    below i at
+    (λ lo. overwrite-lo at new (resize n (a ++ (old ++ r))) i lo ∙ was ∙ List·getD-append a (old ++ r) 0 i (omega arith)
+    ∙ sym (is ∙ List·getD-append a (new ++ r) 0 i (omega arith)))
+    (λ hi. below i (at + length new)
+    (λ lo. overwrite-in at new (resize n (a ++ (old ++ r))) i hi lo l
+    ∙ sym (is ∙ append-at a (new ++ r) i (omega arith) ∙ List·getD-append new r 0 (i - length a) (omega arith) ∙ ap (λ (k : ℕ). getD new (i - k) 0) e))
+    (λ past. overwrite-hi at new (resize n (a ++ (old ++ r))) i past ∙ was ∙ append-at a (old ++ r) i (omega arith) ∙ append-at old r (i - length a) (omega arith)
+    ∙ sym (is ∙ append-at a (new ++ r) i (omega arith) ∙ append-at new r (i - length a) (omega arith) ∙ ap (λ (k : ℕ). getD r (i - length a - k) 0) f))))
+
+-- a part in the middle, and what is around it
+pub overwrite-mid : (at : ℕ) (new xs : List ℕ) → at + length new ≤ length xs → overwrite at new xs ≡ take at xs ++ (new ++ drop (at + length new) xs)
+unfolding overwrite
+overwrite-mid at new xs h = rw (take-all (length xs - at) new (omega arith))

@@ -13,9 +13,13 @@ abbrev pub magic : ℕ
 magic = de 8 (73 ∷ 67 ∷ 83 ∷ 81 ∷ 76 ∷ 73 ∷ 84 ∷ 69 ∷ [])
 
 -- 01: "then eighteen 64-bit fields. Their offsets stand in one constant table, in the order of `encode`"
+abbrev pub otherFields : Superblock → List ℕ
+otherFields b =
+    b .«db_size» ∷ b .«schema_version» ∷ b .«last_tx_id» ∷ b .flags ∷ b .checksum ∷ b .«import_expected_checksum» ∷ b .«import_written_until» ∷ b .«import_total_size» ∷ b .«import_base_offset» ∷ b .«checksum_refresh_offset» ∷ b .«checksum_refresh_hash» ∷ b .«checksum_refresh_tx_id» ∷ b .«db_base_offset» ∷ b .«page_table_offset» ∷ b .«page_count» ∷ b .«layout_version» ∷ b .«zero_extent_count» ∷ []
+
+-- the last is the checksum
 abbrev pub fieldsOf : Superblock → List ℕ
-fieldsOf b =
-    b .«db_size» ∷ b .«schema_version» ∷ b .«last_tx_id» ∷ b .flags ∷ b .checksum ∷ b .«import_expected_checksum» ∷ b .«import_written_until» ∷ b .«import_total_size» ∷ b .«import_base_offset» ∷ b .«checksum_refresh_offset» ∷ b .«checksum_refresh_hash» ∷ b .«checksum_refresh_tx_id» ∷ b .«db_base_offset» ∷ b .«page_table_offset» ∷ b .«page_count» ∷ b .«layout_version» ∷ b .«zero_extent_count» ∷ b .«meta_checksum» ∷ []
+fieldsOf b = otherFields b ++ (b .«meta_checksum» ∷ [])
 
 abbrev pub ofFields : ℕ → ℕ → ℕ → List ℕ → Superblock
 ofFields m v p f = record {

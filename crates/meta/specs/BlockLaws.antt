@@ -1,15 +1,15 @@
 -- Laws of the superblock's bytes.
 use mathlib.Core.Path.{_≡_, refl, sym, ap, _∙_}
-use mathlib.Core.List.{List, [], _∷_, _++_, append-assoc}
+use mathlib.Core.List.{List, [], _∷_, _++_, append-assoc, append-nil}
 use Prim.Native.Nat.{ℕ, zero, suc, _+_, _-_, _*_, _/_, _%_, _≤_, _<_, min}
 use native.Mathlib.Omega.{arith}
 use lib.ListN.{length, getD, take, drop, length-append, length-take, length-drop}
 use lib.Seq.{take-all, take-take, getD-take, getD-drop, drop-drop, ext-getD}
 use Rattle.memory.specs.Bytes.{zeros, overwrite, resize}
-use Rattle.memory.specs.Laws.{length-resize, resize-in, overwrite-join, overwrite-cut, overwrite-zeros, length-overwrite, below}
+use Rattle.memory.specs.Laws.{length-resize, resize-in, overwrite-join, overwrite-cut, overwrite-zeros, length-overwrite, below, resize-patch}
 use Rattle.meta.specs.declared.superblock.Superblock.{Superblock}
-use Rattle.meta.specs.Words.{take-words, word-halves, le, de, word, words, wordAt, wordsIn, wordsIn-at, wordAt-drop, length-wordsIn, length-word, length-words, length-le, Bytes}
-use Rattle.meta.specs.Block.{fieldsOf, fieldsIn, fieldOffset, offset-is, ofFields, header, headerOf, blockBytes, encode, decode, encodedLen, prefix}
+use Rattle.meta.specs.Words.{take-words, words-append, word-halves, le, de, word, words, wordAt, wordsIn, wordsIn-at, wordAt-drop, length-wordsIn, length-word, length-words, length-le, Bytes}
+use Rattle.meta.specs.Block.{otherFields, sealedBy, fieldsOf, fieldsIn, fieldOffset, offset-is, ofFields, header, headerOf, blockBytes, encode, decode, encodedLen, prefix}
 
 -- ## The fields in bytes
 
@@ -54,3 +54,48 @@ module _ (m v p : ℕ) (f : List ℕ) where
         let three : overwrite 160 (words runs) (overwrite 0 (headerOf m v p f) out) ≡ overwrite 0 (headerOf m v p f ++ words runs) out =
         (let z : 0 + length (headerOf m v p f) ≡ 160 = omega (arith, length-headerOf k) in rw z at (overwrite-join 0 (headerOf m v p f) (words runs) out)) in
         rw (one, two, front-is h) (runs-cut n runs (overwrite 0 (headerOf m v p f) out) e (length-overwrite 0 (headerOf m v p f) out ∙ l) ∙ three)
+
+-- ## The checksum's field
+
+-- what comes before it
+abbrev before : ℕ → ℕ → ℕ → List ℕ → List ℕ
+before m v p g = word m ++ (le 4 v ++ (le 4 p ++ words g))
+
+header-split : (m v p c : ℕ) (g r : List ℕ) → headerOf m v p (g ++ (c ∷ [])) ++ r ≡ before m v p g ++ (word c ++ r)
+unfolding headerOf
+header-split m v p c g r = simp (words-append, append-nil, append-assoc)
+
+length-before : (m v p : ℕ) (g : List ℕ) → length g ≡ 17 → length (before m v p g) ≡ 152
+length-before m v p g h = length-append (word m) (le 4 v ++ (le 4 p ++ words g)) ∙ omega (arith, length-word m, length-words g)
+
+module _ (b : Superblock) (runs : List ℕ) where
+  pub length-encode : length (encode b runs) ≡ 16544
+  unfolding encode
+  length-encode = length-resize 16544 (blockBytes b runs)
+
+  pub encode-is : overwrite 0 (blockBytes b runs) (zeros 16544) ≡ encode b runs
+  unfolding encode
+  encode-is = overwrite-zeros 16544 (blockBytes b runs)
+
+  pub encodedLen-lo : 160 ≤ encodedLen b
+  unfolding encodedLen
+  encodedLen-lo = omega arith
+
+  pub encodedLen-hi : encodedLen b ≤ 16544
+  unfolding encodedLen
+  encodedLen-hi = omega arith
+
+  pub sealed-len : (c : ℕ) → encodedLen (sealedBy c b) ≡ encodedLen b
+  unfolding encodedLen
+  sealed-len c = refl
+
+  -- another checksum changes its eight bytes
+  pub reseal : (a c : ℕ) → overwrite 152 (word c) (encode (sealedBy a b) runs) ≡ encode (sealedBy c b) runs
+  unfolding encode blockBytes header
+  reseal a c =
+      let m : ℕ = b .magic in
+      let p : ℕ = b .«sqlite_page_size» in
+      let g : List ℕ = otherFields b in
+      ap (λ (l : List ℕ). overwrite 152 (word c) (resize 16544 l)) (header-split m 8 p a g (words runs))
+      ∙ resize-patch 16544 152 (before m 8 p g) (word a) (word c) (words runs) (length-before m 8 p g refl) (length-word c ∙ sym (length-word a))
+      ∙ ap (resize 16544) (sym (header-split m 8 p c g (words runs)))

@@ -5,6 +5,7 @@ ghost use Prim.Native.Nat.{ℕ, _+_, _*_, _≤_, _<_, min};
 ghost use lib.ListN.{length, drop};
 ghost use Rattle.memory.specs.Bytes.{zeros, overwrite};
 ghost use Rattle.meta.specs.Words.{words};
+use crate::fnv::fnv1a64;
 use crate::word::read_word;
 use crate::word::write_word;
 
@@ -217,5 +218,61 @@ impl Superblock {
         out.version = Superblock::VERSION;
         out.meta_checksum = checksum;
         out
+    }
+
+    // The block with its checksum, in an array of zeros.
+    fn seal(self, runs: &[u64], out: &mut [u8]) -> Superblock
+        requires { ⌜ now out ≡ zeros 16544 ⌝ }
+        ensures { λ r. ⌜ outcome r (now (out .exit)) ≡ outcome (sealed self (now (runs .entry))) (encoded (sealed self (now (runs .entry))) (now (runs .entry))) ⌝ }
+    {
+        let blank = self.sealed_by(0);
+        blank.encode(runs, out);
+        let n = blank.encoded_len();
+        let checksum = fnv1a64(&out[..n]);
+        write_word(out, 152, checksum);
+        self.sealed_by(checksum)
+    }
+
+    // The block of a new image.
+    pub fn fresh() -> Superblock
+        ensures { λ r. ⌜ r ≡ freshBlock ⌝ }
+    {
+        let mut bytes = [0u8; 16544];
+        let none = [0u64; 1];
+        let block = Superblock {
+            magic: Superblock::MAGIC,
+            version: Superblock::VERSION,
+            sqlite_page_size: 16_384,
+            db_size: 0,
+            schema_version: 0,
+            last_tx_id: 0,
+            flags: 0,
+            checksum: 0,
+            import_expected_checksum: 0,
+            import_written_until: 0,
+            import_total_size: 0,
+            import_base_offset: 0,
+            checksum_refresh_offset: 0,
+            checksum_refresh_hash: 0,
+            checksum_refresh_tx_id: 0,
+            db_base_offset: config::DB_REGION_OFFSET,
+            page_table_offset: 0,
+            page_count: 0,
+            layout_version: Superblock::LAYOUT_VERSION,
+            zero_extent_count: 0,
+            meta_checksum: 0,
+        };
+        block.seal(&none[..0], &mut bytes)
+    }
+
+    // A block is built in a zeroed array of 16,544 bytes; as many of them as it has are stored, and hashed.
+    pub fn store(self, runs: &[u64], mem: &mut [u8]) -> Superblock
+        ensures { λ r. ⌜ outcome r (now (mem .exit)) ≡ outcome (sealed self (now (runs .entry))) (storeIn self (now (runs .entry)) (now (mem .entry))) ⌝ }
+    {
+        let mut bytes = [0u8; 16544];
+        let block = self.seal(runs, &mut bytes);
+        let n = block.encoded_len();
+        memory::copy(mem, &bytes[..n]);
+        block
     }
 }

@@ -56,12 +56,11 @@ loop-again c = let at = c .before .before .before in
     let o = at .loop .out in
     let k = at .loop .k in
     let h : k < length o = omega arith in
-    let s = at .before .before .args .bytes .now in
-    (
+    let s = at .before .before .args .bytes .now in (
       search needs,
       length-set o k (c .read-word .result) ∙ at .loop .inv .1,
       below-more (λ (i : ℕ). getD (set o k (c .read-word .result)) i 0 ≡ wordAt (fieldOffset i) s) k (λ i lt. getD-set-other o k i (c .read-word .result) 0 (λ e. omega (arith, e)) ∙ at .loop .inv .2 i lt)
-      (getD-set-same o k (c .read-word .result) 0 h ∙ c .read-word .ensures ∙ ap (λ (n : ℕ). wordAt n s) (c .before .field-offset .ensures)),
+          (getD-set-same o k (c .read-word .result) 0 h ∙ c .read-word .ensures ∙ ap (λ (n : ℕ). wordAt n s) (c .before .field-offset .ensures)),
     )
 
 -- src/superblock.rt:85:1

@@ -55,8 +55,7 @@ loop-again : tie.Need-loop-again Inv-loop μ-loop
 loop-again c = let at = c .before .before .before .before .before .before .before in
     let s = at .before .before .before .args in
     let f = c .before .before .before .before .field-offset in
-    let h : at .loop .k < length (s .fields .now) = omega arith in
-    (
+    let h : at .loop .k < length (s .fields .now) = omega arith in (
       search needs,
       c .before .before .write-word .kept .0 ∙ at .loop .inv .1,
       c .before .before .write-word .ensures ∙ rw (f .ensures ∙ offset-is (at .loop .k), at .loop .inv .2) (words-more (s .fields .now) (s .out .now) 16 (at .loop .k) h),

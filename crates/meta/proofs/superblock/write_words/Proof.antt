@@ -55,8 +55,7 @@ loop-less c = search needs
 -- src/superblock.rt:104:5
 loop-again : tie.Need-loop-again Inv-loop μ-loop
 loop-again c = let at = c .before .before .before .before .before .before in
-    let s = at .before .before .before .args in
-    (
+    let s = at .before .before .before .args in (
       search needs,
       c .before .before .write-word .kept .0 ∙ at .loop .inv .1,
       c .before .before .write-word .ensures ∙ rw (at .loop .inv .2) (words-more (s .numbers .now) (s .out .now) (s .at) (at .loop .k) (search needs)),

@@ -1,0 +1,109 @@
+-- `meta::Superblock::seal` meets its contract: the block is encoded with checksum 0, hashed, and its checksum's eight bytes written.
+use mathlib.Core.Path.{_≡_, refl, sym, ap, _∙_}
+use mathlib.Core.List.{List, []}
+use Prim.Native.Nat.{ℕ, _≤_}
+use native.Mathlib.Omega.{arith}
+use lib.ListN.{length, take, length-take}
+use Rattle.memory.specs.Bytes.{zeros, overwrite}
+use Rattle.memory.specs.Laws.{length-zeros}
+use Rattle.meta.specs.declared.superblock.Superblock.{Superblock}
+use Rattle.meta.specs.Fnv.{fnv1a64 as hashed}
+use Rattle.meta.specs.Words.{word}
+use Rattle.meta.specs.Block.{blockBytes, sealedBy, checksumOf, prefix, encodedLen}
+use Rattle.meta.specs.Block.{encode as encoded}
+use Rattle.meta.specs.Block.{seal as sealed}
+use Rattle.meta.specs.BlockLaws.{encode-is, length-encode, encodedLen-lo, encodedLen-hi, reseal}
+use Rattle.meta.specs.Stored.{outcome}
+use borrow.Author.Needs.{needs}
+use Rattle.meta.proofs.superblock.Superblock.seal.Statement.{statement}
+use Rattle.meta.proofs.superblock.Superblock.seal.Tie as tie
+use Rattle.meta.proofs.superblock.Superblock.seal.Reads as reads
+use Rattle.meta.proofs.superblock.Superblock.seal.Lts as lts
+use Rattle.meta.proofs.fnv.fnv1a64.Reads as fnv1a64-reads
+use Rattle.meta.proofs.superblock.Superblock.encode.Reads as encode-reads
+use Rattle.meta.proofs.superblock.Superblock.encoded_len.Reads as encoded-len-reads
+use Rattle.meta.proofs.superblock.Superblock.sealed_by.Reads as sealed-by-reads
+use Rattle.meta.proofs.word.write_word.Reads as write-word-reads
+
+-- the array holds the block with checksum 0
+blank : (c : tie.After-slice-known2) → let s = c .before .before .before .before .before .before .before .args in
+    c .before .before .encode .last .1 .1 .0 ≡ encoded (sealedBy 0 (s .self)) (s .runs .now)
+blank c =
+    let e = c .before .before in
+    let s = e .before .before .before .before .before in
+    e .encode .ensures ∙ rw (s .pre, e .before .before .sealed-by .ensures) (encode-is (sealedBy 0 (s .args .self)) (s .args .runs .now))
+
+-- and is as long as an encoded block
+whole : (c : tie.After-slice-known2) → length (c .before .before .encode .last .1 .1 .0) ≡ 16544
+whole c = let s = c .before .before .before .before .before .before .before .args in ap length (blank c) ∙ length-encode (sealedBy 0 (s .self)) (s .runs .now)
+
+fits : (c : tie.After-encoded-len) → c .encoded-len .result ≤ length (c .before .before .before .encode .last .1 .1 .0)
+fits c = let b = c .before .before .before .before .before .sealed-by .result in omega (arith, c .encoded-len .ensures, encodedLen-hi b [], whole (c .before))
+
+-- src/superblock.rt:228:13
+sealed-by-requires : tie.Need-sealed-by-requires
+sealed-by-requires c κs = search needs
+
+-- src/superblock.rt:229:9
+encode-requires : tie.Need-encode-requires
+encode-requires c κs = ap length (c .before .before .before .before .pre) ∙ length-zeros 16544
+
+-- src/superblock.rt:230:13
+encoded-len-requires : tie.Need-encoded-len-requires
+encoded-len-requires c κs = search needs
+
+-- src/superblock.rt:231:32
+slice-reshare-prefix-fnv1a64 : tie.Need-slice-reshare-prefix-fnv1a64
+slice-reshare-prefix-fnv1a64 c = fits c
+
+-- src/superblock.rt:231:32
+slice-aggregate-fnv1a64 : tie.Need-slice-aggregate-fnv1a64
+slice-aggregate-fnv1a64 c = simp length-take (omega (arith, fits (c .before)))
+
+-- src/superblock.rt:231:13
+fnv1a64-requires : tie.Need-fnv1a64-requires
+fnv1a64-requires c κs = search needs
+
+-- src/superblock.rt:232:9
+write-word-requires : tie.Need-write-word-requires
+write-word-requires c κs = omega (arith, whole (c .before .before .before .before))
+
+-- src/superblock.rt:233:9
+sealed-by-requires-2 : tie.Need-sealed-by-requires-2
+sealed-by-requires-2 c κs = search needs
+
+-- src/superblock.rt:224:5
+same-length : tie.Need-same-length
+same-length c = search needs
+
+-- src/superblock.rt:224:5
+returns : tie.Need-returns
+unfolding sealed checksumOf prefix
+returns c = let w = c .before .before .before in
+    let f = w .before .before in
+    let n = f .before .before in
+    let k = n .before in
+    let s = k .before .before .before .before .before .before .before .args in
+    let b : Superblock = s .self in
+    let r : List ℕ = s .runs .now in
+    let l : n .encoded-len .result ≡ encodedLen (sealedBy 0 b) = n .encoded-len .ensures ∙ ap encodedLen (k .before .before .before .before .sealed-by .ensures) in
+    let h : f .fnv1a64 .result ≡ checksumOf b r = f .fnv1a64 .ensures ∙ (λ i. hashed (take (l i) (blank k i))) in
+    let block : c .sealed-by2 .result ≡ sealed b r = c .sealed-by2 .ensures ∙ ap (λ (x : ℕ). sealedBy x b) h in
+    let bytes : w .write-word .last .0 ≡ encoded (sealed b r) r =
+    w .write-word .ensures ∙ rw (blank k) (reseal b r 0 (f .fnv1a64 .result)) ∙ ap (λ (x : ℕ). encoded (sealedBy x b) r) h in
+    λ i. outcome (block i) (bytes i)
+
+pub seal-spec : {M : Type 1} → statement M
+seal-spec =
+    tie.close
+    (tie.spec
+    sealed-by-requires
+    encode-requires
+    encoded-len-requires
+    slice-reshare-prefix-fnv1a64
+    slice-aggregate-fnv1a64
+    fnv1a64-requires
+    write-word-requires
+    sealed-by-requires-2
+    same-length
+    returns)
