@@ -3,6 +3,7 @@ use mathlib.Core.Path.{_≡_, refl, sym, ap, _∙_}
 use mathlib.Core.Bool.{Bool, true, false}
 use mathlib.Core.List.{List, [], _∷_, _++_, append-assoc, append-nil}
 use Prim.Native.Nat.{ℕ, zero, suc, _+_, _-_, _*_, _≤_, _<_, min}
+use native.Mathlib.Nat.{sub-zero, zero-sub, suc-sub-suc}
 use native.Mathlib.Omega.{arith}
 use lib.Dec.{ltb}
 use lib.ListN.{length, take, drop, getD, replicate, length-append, length-take, length-drop, length-replicate, drop-of-length-le, List·getD-eq-default, List·getD-append}
@@ -278,3 +279,10 @@ resize-patch n at a old new r e f = ext-getD 0 _ _ (length-overwrite at new (res
 pub overwrite-mid : (at : ℕ) (new xs : List ℕ) → at + length new ≤ length xs → overwrite at new xs ≡ take at xs ++ (new ++ drop (at + length new) xs)
 unfolding overwrite
 overwrite-mid at new xs h = rw (take-all (length xs - at) new (omega arith))
+
+-- a part from the front of a list, from a place on
+pub drop-take : (a n : ℕ) (l : List ℕ) → drop a (take n l) ≡ take (n - a) (drop a l)
+drop-take zero n l = rw (sub-zero n)
+drop-take (suc a) zero l = rw (zero-sub (suc a))
+drop-take (suc a) (suc n) [] = sym (take-nil (suc n - suc a))
+drop-take (suc a) (suc n) (x ∷ l) = rw (suc-sub-suc n a) (drop-take a n l)

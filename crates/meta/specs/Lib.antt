@@ -4,3 +4,5 @@ pub mod Runs
 pub mod Block
 pub mod BlockLaws
 pub mod Stored
+pub mod Load
+pub mod LoadLaws

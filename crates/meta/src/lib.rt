@@ -1,11 +1,16 @@
 // The superblock of an image, and its checksum.
 mod fnv;
+mod opening;
 mod superblock;
 mod word;
 
 pub use fnv::FNV_OFFSET_BASIS;
 pub use fnv::fnv1a64;
 pub use fnv::fold_fnv1a64;
+pub use opening::Loaded;
+pub use opening::extent_at;
+pub use opening::load;
+pub use opening::normalized;
 pub use superblock::Superblock;
 pub use word::read_word;
 pub use word::write_word;

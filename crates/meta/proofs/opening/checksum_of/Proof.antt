@@ -1,0 +1,72 @@
+-- `meta::checksum_of` meets its contract: the hash goes on over three parts.
+use mathlib.Core.Path.{_≡_, refl, _∙_}
+use mathlib.Core.List.{[], _∷_}
+use native.Mathlib.Omega.{arith}
+use lib.ListN.{length, take, length-take}
+use Rattle.memory.specs.Bytes.{zeros}
+use Rattle.meta.specs.Fnv.{fnv-is}
+use Rattle.meta.specs.LoadLaws.{checksum-parts}
+use borrow.Author.Needs.{needs}
+use Rattle.meta.proofs.opening.checksum_of.Statement.{statement}
+use Rattle.meta.proofs.opening.checksum_of.Tie as tie
+use Rattle.meta.proofs.opening.checksum_of.Reads as reads
+use Rattle.meta.proofs.opening.checksum_of.Lts as lts
+use Rattle.meta.proofs.fnv.fnv1a64.Reads as fnv1a64-reads
+use Rattle.meta.proofs.fnv.fold_fnv1a64.Reads as fold-fnv1a64-reads
+
+eight : 0 ∷ 0 ∷ 0 ∷ 0 ∷ 0 ∷ 0 ∷ 0 ∷ 0 ∷ [] ≡ zeros 8
+unfolding zeros
+eight = refl
+
+-- src/opening.rt:73:26
+slice-aggregate-fnv1a64 : tie.Need-slice-aggregate-fnv1a64
+slice-aggregate-fnv1a64 c = simp length-take (omega arith)
+
+-- src/opening.rt:73:9
+fnv1a64-requires : tie.Need-fnv1a64-requires
+fnv1a64-requires c κs = search needs
+
+-- src/opening.rt:74:38
+slice-aggregate-fold-fnv1a64 : tie.Need-slice-aggregate-fold-fnv1a64
+slice-aggregate-fold-fnv1a64 c = search needs
+
+-- src/opening.rt:74:9
+fold-fnv1a64-requires : tie.Need-fold-fnv1a64-requires
+fold-fnv1a64-requires c κs = search needs
+
+-- src/opening.rt:75:25
+sub-fold-fnv1a64 : tie.Need-sub-fold-fnv1a64
+sub-fold-fnv1a64 c = search needs
+
+-- src/opening.rt:75:25
+part-fold-fnv1a64-start : tie.Need-part-fold-fnv1a64-start
+part-fold-fnv1a64-start c = search needs
+
+-- src/opening.rt:75:25
+part-fold-fnv1a64-end : tie.Need-part-fold-fnv1a64-end
+part-fold-fnv1a64-end c = search needs
+
+-- src/opening.rt:75:5
+fold-fnv1a64-requires-2 : tie.Need-fold-fnv1a64-requires-2
+fold-fnv1a64-requires-2 c κs = search needs
+
+-- src/opening.rt:68:1
+returns : tie.Need-returns
+returns c = let f = c .before .before .before .before in
+    let s = f .before .before .before in
+    let one = f .fnv1a64 .ensures ∙ fnv-is (take 152 (s .args .bytes .now)) in
+    c .fold-fnv1a642 .ensures ∙ rw (c .before .before .fold-fnv1a64 .ensures, one) (checksum-parts (s .args .n) (s .args .bytes .now) _ (s .pre .0) (s .pre .1) eight)
+
+pub checksum-of-spec : {M : Type 1} → statement M
+checksum-of-spec =
+    tie.close
+    (tie.spec
+    slice-aggregate-fnv1a64
+    fnv1a64-requires
+    slice-aggregate-fold-fnv1a64
+    fold-fnv1a64-requires
+    sub-fold-fnv1a64
+    part-fold-fnv1a64-start
+    part-fold-fnv1a64-end
+    fold-fnv1a64-requires-2
+    returns)
