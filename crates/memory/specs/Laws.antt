@@ -7,7 +7,7 @@ use native.Mathlib.Nat.{sub-zero, zero-sub, suc-sub-suc}
 use native.Mathlib.Omega.{arith}
 use lib.Dec.{ltb}
 use lib.ListN.{length, take, drop, getD, replicate, length-append, length-take, length-drop, length-replicate, drop-of-length-le, List·getD-eq-default, List·getD-append}
-use lib.Seq.{take-all, drop-length, drop-drop, getD-take, getD-drop, getD-append-add, ext-getD, take-nil}
+use lib.Seq.{take-all, take-take, take-append-seam, drop-length, drop-drop, getD-take, getD-drop, getD-append-add, ext-getD, take-nil}
 use borrow.Author.Tests.{ltb-true, ltb-false}
 use borrow.Rule.Slice.PartMut.{putMid}
 use Rattle.memory.specs.Bytes.{zeros, overwrite, resize}
@@ -286,3 +286,31 @@ drop-take zero n l = rw (sub-zero n)
 drop-take (suc a) zero l = rw (zero-sub (suc a))
 drop-take (suc a) (suc n) [] = sym (take-nil (suc n - suc a))
 drop-take (suc a) (suc n) (x ∷ l) = rw (suc-sub-suc n a) (drop-take a n l)
+
+-- what was written over the front is there
+pub take-overwrite : (new xs : List ℕ) → length new ≤ length xs → take (length new) (overwrite 0 new xs) ≡ new
+take-overwrite new xs h =
+    let l : length (take (length new) (overwrite 0 new xs)) ≡ length new = length-take (length new) (overwrite 0 new xs) ∙ omega (arith, length-overwrite 0 new xs) in
+    ext-getD 0 _ _ l (λ i k.
+    let j : i < length new = omega arith in
+    getD-take (length new) (overwrite 0 new xs) i 0 j ∙ overwrite-in 0 new xs i (omega arith) (omega arith) (omega arith) ∙ ap (λ (n : ℕ). getD new n 0) {x = i - 0} {y = i} (omega arith))
+
+pub take-resize : (n : ℕ) (xs : List ℕ) → length xs ≤ n → take (length xs) (resize n xs) ≡ xs
+unfolding resize
+take-resize n xs h = take-take (length xs) n (xs ++ zeros n) h ∙ take-append-seam xs (zeros n)
+
+-- a part from the front, overwritten
+pub overwrite-take : (at n : ℕ) (new xs : List ℕ) → at + length new ≤ n → overwrite at new (take n xs) ≡ take n (overwrite at new xs)
+overwrite-take at n new xs h =
+    let m : length (take n xs) ≡ min n (length xs) = length-take n xs in
+    let o : length (overwrite at new (take n xs)) ≡ min n (length xs) = length-overwrite at new (take n xs) ∙ m in
+    ext-getD 0 _ _ (o ∙ sym (length-take n (overwrite at new xs) ∙ ap (min n) (length-overwrite at new xs)))
+    (λ i k.
+        let j : i < n = omega arith in
+        let l : i < length xs = omega arith in
+        let t : i < length (take n xs) = omega arith in
+        below i at
+        (λ lo. overwrite-lo at new (take n xs) i lo ∙ getD-take n xs i 0 j ∙ sym (getD-take n (overwrite at new xs) i 0 j ∙ overwrite-lo at new xs i lo))
+        (λ hi. below i (at + length new)
+            (λ lo. overwrite-in at new (take n xs) i hi lo t ∙ sym (getD-take n (overwrite at new xs) i 0 j ∙ overwrite-in at new xs i hi lo l))
+            (λ past. overwrite-hi at new (take n xs) i past ∙ getD-take n xs i 0 j ∙ sym (getD-take n (overwrite at new xs) i 0 j ∙ overwrite-hi at new xs i past))))

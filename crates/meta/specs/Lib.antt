@@ -1,3 +1,4 @@
+pub mod Table
 pub mod Words
 pub mod Fnv
 pub mod Runs
@@ -6,3 +7,4 @@ pub mod BlockLaws
 pub mod Stored
 pub mod Load
 pub mod LoadLaws
+pub mod RoundTrip

@@ -1,6 +1,6 @@
 -- `meta::field_offset` meets its contract: the table's entries are 16, 24, .. 152.
 use Rattle.meta.specs.Block.{fieldOffset}
-use Rattle.meta.proofs.Table.{value-at}
+use Rattle.meta.specs.Table.{value-at}
 use borrow.Author.Needs.{needs}
 use Rattle.meta.proofs.superblock.field_offset.Statement.{statement}
 use Rattle.meta.proofs.superblock.field_offset.Tie as tie
