@@ -6,8 +6,9 @@ use Prim.Native.Nat.{ℕ, zero, suc, _+_, _-_, _*_, _≤_, _<_, min}
 use native.Mathlib.Nat.{sub-zero, zero-sub, suc-sub-suc}
 use native.Mathlib.Omega.{arith}
 use lib.Dec.{ltb}
-use lib.ListN.{length, take, drop, getD, replicate, length-append, length-take, length-drop, length-replicate, drop-of-length-le, List·getD-eq-default, List·getD-append}
-use lib.Seq.{take-all, take-take, take-append-seam, drop-length, drop-drop, getD-take, getD-drop, getD-append-add, ext-getD, take-nil}
+use native.Mathlib.Numerals.{add-one}
+use lib.ListN.{length, take, drop, getD, set, replicate, length-append, length-take, length-drop, length-replicate, drop-of-length-le, List·getD-eq-default, List·getD-append}
+use lib.Seq.{take-suc, set-split, take-all, take-take, take-append-seam, drop-length, drop-drop, getD-take, getD-drop, getD-append-add, ext-getD, take-nil}
 use borrow.Author.Tests.{ltb-true, ltb-false}
 use borrow.Rule.Slice.PartMut.{putMid}
 use Rattle.memory.specs.Bytes.{zeros, overwrite, resize}
@@ -314,3 +315,18 @@ overwrite-take at n new xs h =
         (λ hi. below i (at + length new)
             (λ lo. overwrite-in at new (take n xs) i hi lo t ∙ sym (getD-take n (overwrite at new xs) i 0 j ∙ overwrite-in at new xs i hi lo l))
             (λ past. overwrite-hi at new (take n xs) i past ∙ getD-take n xs i 0 j ∙ sym (getD-take n (overwrite at new xs) i 0 j ∙ overwrite-hi at new xs i past))))
+
+-- one element stored
+pub set-overwrite : (i : ℕ) (x : ℕ) (l : List ℕ) → i < length l → set l i x ≡ overwrite i (x ∷ []) l
+unfolding overwrite
+set-overwrite i x l h =
+    let t : take (length l - i) (x ∷ []) ≡ x ∷ [] = take-all (length l - i) (x ∷ []) (omega arith) in
+    rw (t, add-one i) (set-split l i x h)
+
+-- one element more
+pub overwrite-more : (src l : List ℕ) (i : ℕ) → i < length src → i < length l → set (overwrite 0 (take i src) l) i (getD src i 0) ≡ overwrite 0 (take (i + 1) src) l
+overwrite-more src l i h k =
+    let n : 0 + length (take i src) ≡ i = omega (arith, length-take i src) in
+    let e : take (i + 1) src ≡ take i src ++ (getD src i 0 ∷ []) = rw (add-one i) (take-suc src i 0 h) in
+    set-overwrite i (getD src i 0) (overwrite 0 (take i src) l) (omega (arith, length-overwrite 0 (take i src) l))
+    ∙ rw e (rw n at (overwrite-join 0 (take i src) (getD src i 0 ∷ []) l))

@@ -1,10 +1,13 @@
 // Memory is one byte slice that the caller lends. The state says how many of its stable pages are in use; the whole
 // stable pages of its length are the ceiling.
+mod numbers;
 mod part;
 
 use config::Refusal;
 use config::STABLE_PAGE_SIZE;
 use config::StablePages;
+pub use numbers::copy_numbers;
+pub use numbers::fill_numbers;
 pub use part::copy;
 pub use part::fill;
 pub use part::fill_at;

@@ -1,6 +1,6 @@
 -- The superblock: its fields, its bytes and its checksum.
 use mathlib.Core.Path.{_≡_, refl}
-use Prim.Native.Nat.{ℕ, _+_, _*_, min}
+use Prim.Native.Nat.{ℕ, _+_, _*_, _%_, min}
 use mathlib.Core.List.{List, [], _∷_, _++_}
 use lib.ListN.{getD, take, drop}
 use Rattle.memory.specs.Bytes.{overwrite, resize}
@@ -127,3 +127,10 @@ unsealed = ofFields magic 8 16384 (0 ∷ 0 ∷ 0 ∷ 0 ∷ 0 ∷ 0 ∷ 0 ∷ 0 �
 
 unfoldable pub fresh : Superblock
 fresh = seal unsealed []
+
+-- a block as a list of numbers
+abbrev pub numbersOf : Superblock → List ℕ
+numbersOf b = b .magic ∷ b .version ∷ b .«sqlite_page_size» ∷ fieldsOf b
+
+abbrev pub ofNumbers : List ℕ → Superblock
+ofNumbers n = ofFields (getD n 0 0) (getD n 1 0 % 4294967296) (getD n 2 0 % 4294967296) (drop 3 n)

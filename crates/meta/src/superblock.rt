@@ -41,6 +41,7 @@ ghost use Rattle.meta.specs.Block.{encode as encoded};
 ghost use Rattle.meta.specs.Block.{seal as sealed};
 ghost use Rattle.meta.specs.Block.{fresh as freshBlock};
 ghost use Rattle.meta.specs.Block.{storeIn};
+ghost use Rattle.meta.specs.Block.{numbersOf, ofNumbers};
 ghost use Rattle.meta.specs.Stored.{outcome};
 
 // Where each 64-bit field lies, in the order of `fields`.
@@ -274,5 +275,64 @@ impl Superblock {
         let n = block.encoded_len();
         memory::copy(mem, &bytes[..n]);
         block
+    }
+
+    // The block as a list of numbers: magic, version, page size, then the fields.
+    pub fn numbers(self) -> [u64; 21]
+        ensures { λ r. ⌜ r ≡ numbersOf self ⌝ }
+    {
+        [
+            self.magic,
+            self.version as u64,
+            self.sqlite_page_size as u64,
+            self.db_size,
+            self.schema_version,
+            self.last_tx_id,
+            self.flags,
+            self.checksum,
+            self.import_expected_checksum,
+            self.import_written_until,
+            self.import_total_size,
+            self.import_base_offset,
+            self.checksum_refresh_offset,
+            self.checksum_refresh_hash,
+            self.checksum_refresh_tx_id,
+            self.db_base_offset,
+            self.page_table_offset,
+            self.page_count,
+            self.layout_version,
+            self.zero_extent_count,
+            self.meta_checksum,
+        ]
+    }
+
+    // The block of such a list; of the version and the page size the low 32 bits count.
+    pub fn of_numbers(n: &[u64]) -> Superblock
+        requires { ⌜ 21 ≤ length (now n) ⌝ }
+        ensures { λ r. ⌜ r ≡ ofNumbers (now (n .entry)) ⌝ }
+    {
+        Superblock {
+            magic: n[0],
+            version: (n[1] % 0x1_0000_0000) as u32,
+            sqlite_page_size: (n[2] % 0x1_0000_0000) as u32,
+            db_size: n[3],
+            schema_version: n[4],
+            last_tx_id: n[5],
+            flags: n[6],
+            checksum: n[7],
+            import_expected_checksum: n[8],
+            import_written_until: n[9],
+            import_total_size: n[10],
+            import_base_offset: n[11],
+            checksum_refresh_offset: n[12],
+            checksum_refresh_hash: n[13],
+            checksum_refresh_tx_id: n[14],
+            db_base_offset: n[15],
+            page_table_offset: n[16],
+            page_count: n[17],
+            layout_version: n[18],
+            zero_extent_count: n[19],
+            meta_checksum: n[20],
+        }
     }
 }
