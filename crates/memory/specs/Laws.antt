@@ -307,14 +307,14 @@ overwrite-take at n new xs h =
     let o : length (overwrite at new (take n xs)) ≡ min n (length xs) = length-overwrite at new (take n xs) ∙ m in
     ext-getD 0 _ _ (o ∙ sym (length-take n (overwrite at new xs) ∙ ap (min n) (length-overwrite at new xs)))
     (λ i k.
-        let j : i < n = omega arith in
-        let l : i < length xs = omega arith in
-        let t : i < length (take n xs) = omega arith in
-        below i at
-        (λ lo. overwrite-lo at new (take n xs) i lo ∙ getD-take n xs i 0 j ∙ sym (getD-take n (overwrite at new xs) i 0 j ∙ overwrite-lo at new xs i lo))
-        (λ hi. below i (at + length new)
-            (λ lo. overwrite-in at new (take n xs) i hi lo t ∙ sym (getD-take n (overwrite at new xs) i 0 j ∙ overwrite-in at new xs i hi lo l))
-            (λ past. overwrite-hi at new (take n xs) i past ∙ getD-take n xs i 0 j ∙ sym (getD-take n (overwrite at new xs) i 0 j ∙ overwrite-hi at new xs i past))))
+    let j : i < n = omega arith in
+    let l : i < length xs = omega arith in
+    let t : i < length (take n xs) = omega arith in
+    below i at
+    (λ lo. overwrite-lo at new (take n xs) i lo ∙ getD-take n xs i 0 j ∙ sym (getD-take n (overwrite at new xs) i 0 j ∙ overwrite-lo at new xs i lo))
+    (λ hi. below i (at + length new)
+    (λ lo. overwrite-in at new (take n xs) i hi lo t ∙ sym (getD-take n (overwrite at new xs) i 0 j ∙ overwrite-in at new xs i hi lo l))
+    (λ past. overwrite-hi at new (take n xs) i past ∙ getD-take n xs i 0 j ∙ sym (getD-take n (overwrite at new xs) i 0 j ∙ overwrite-hi at new xs i past))))
 
 -- one element stored
 pub set-overwrite : (i : ℕ) (x : ℕ) (l : List ℕ) → i < length l → set l i x ≡ overwrite i (x ∷ []) l

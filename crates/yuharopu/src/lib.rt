@@ -2,11 +2,13 @@
 ghost use mathlib.Core.Path.{_≡_};
 ghost use Rattle.config.specs.Pages.{count};
 ghost use Rattle.meta.specs.Fnv.{fold, fnv1a64};
-use config::Refusal;
+ghost use Rattle.yuharopu.specs.Exports.{answer, grew, loadFields, freshFields, storeFields, growPages};
 use config::StablePages;
 use memory::Growth;
 use meta::Loaded;
 use meta::Superblock;
+
+const ZERO_EXTENT_LIMIT_EXCEEDED: u64 = 31;
 
 const BUFFER_TOO_SHORT: u64 = 35;
 
@@ -30,4 +32,85 @@ pub extern "C" fn yuharopu_page_count_for_size(size: u64) -> u64
 {
     let pages = config::page_count_for_size(size);
     pages.0
+}
+
+#[no_mangle]
+pub extern "C" fn yuharopu_grow(mem: &mut [u8], count: u64, end: u64, pages: &mut [u64]) -> u64
+    ensures { λ r. ⌜ grew r (now (mem .exit)) (now (pages .exit)) ≡ growPages (now (mem .entry)) count end (now (pages .entry)) ⌝ }
+{
+    if pages.len() < 2 {
+        return BUFFER_TOO_SHORT;
+    }
+    match memory::grow(mem, StablePages(count), end) {
+        Growth::Grown(after) => {
+            memory::copy_numbers(pages, &[count, after.0]);
+            0
+        }
+        Growth::Refused(refusal) => {
+            let n = refusal.numbers();
+            memory::copy_numbers(pages, &[n.first, n.second]);
+            n.number
+        }
+    }
+}
+
+#[no_mangle]
+pub extern "C" fn yuharopu_superblock_fresh(fields: &mut [u64]) -> u64
+    ensures { λ r. ⌜ answer r (now (fields .exit)) ≡ freshFields (now (fields .entry)) ⌝ }
+{
+    if fields.len() < 21 {
+        return BUFFER_TOO_SHORT;
+    }
+    let numbers = Superblock::fresh().numbers();
+    memory::copy_numbers(fields, &numbers);
+    0
+}
+
+#[no_mangle]
+pub extern "C" fn yuharopu_superblock_load(block: &[u8], fields: &mut [u64]) -> u64
+    ensures { λ r. ⌜ answer r (now (fields .exit)) ≡ loadFields (now (block .entry)) (now (fields .entry)) ⌝ }
+{
+    if block.len() < Superblock::ENCODED_LEN {
+        return BUFFER_TOO_SHORT;
+    }
+    if fields.len() < 21 {
+        return BUFFER_TOO_SHORT;
+    }
+    match meta::load(block) {
+        Loaded::Block(b) => {
+            let numbers = b.numbers();
+            memory::copy_numbers(fields, &numbers);
+            0
+        }
+        Loaded::Refused(refusal) => {
+            let n = refusal.numbers();
+            let mut numbers = [0u64; 21];
+            numbers[0] = n.first;
+            memory::copy_numbers(fields, &numbers);
+            n.number
+        }
+    }
+}
+
+#[no_mangle]
+pub extern "C" fn yuharopu_superblock_store(mem: &mut [u8], fields: &[u64], runs: &[u64]) -> u64
+    ensures { λ r. ⌜ answer r (now (mem .exit)) ≡ storeFields (now (mem .entry)) (now (fields .entry)) (now (runs .entry)) ⌝ }
+{
+    if mem.len() < Superblock::ENCODED_LEN {
+        return BUFFER_TOO_SHORT;
+    }
+    if fields.len() < 21 {
+        return BUFFER_TOO_SHORT;
+    }
+    let count = fields[19];
+    if Superblock::MAX_ZERO_EXTENTS < count {
+        return ZERO_EXTENT_LIMIT_EXCEEDED;
+    }
+    let numbers = (count as usize) * 2;
+    if runs.len() < numbers {
+        return BUFFER_TOO_SHORT;
+    }
+    let block = Superblock::of_numbers(fields);
+    block.store(&runs[..numbers], mem);
+    0
 }

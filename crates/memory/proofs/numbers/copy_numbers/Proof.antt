@@ -49,8 +49,7 @@ loop-less c = search needs
 -- src/numbers.rt:24:5
 loop-again : tie.Need-loop-again Inv-loop μ-loop
 loop-again c = let at = c .before .before in
-    let s = at .before .args in
-    (
+    let s = at .before .args in (
       search needs,
       simp length-set (at .loop .inv .1),
       rw (at .loop .inv .2) (overwrite-more (s .src .now) (s .dst .now) (at .loop .i) (search needs) (omega arith)),

@@ -1,0 +1,90 @@
+-- What the C functions answer, and what the lent slices hold at the end.
+use mathlib.Core.Path.{_≡_, sym, ap}
+use Prim.Native.Nat.{ℕ, _*_, _≤_}
+use mathlib.Core.Bool.{Bool, true, false}
+use mathlib.Core.List.{List, [], _∷_}
+use lib.Dec.{ltb}
+use borrow.Author.Tests.{le-ltb}
+use lib.ListN.{length, getD, take}
+use Rattle.config.specs.Refusals.{numbersOf as numbersOfRefusal}
+use Rattle.memory.specs.declared.Growth.{Growth}
+use Rattle.memory.specs.declared.Growth.the-variants.{Grown, Refused as GrowthRefused}
+use Rattle.memory.specs.Bytes.{zeros, overwrite}
+use Rattle.memory.specs.Growth.{Outcome, growTo}
+use Rattle.meta.specs.declared.opening.Loaded.{Loaded}
+use Rattle.meta.specs.declared.opening.Loaded.the-variants.{Block, Refused}
+use Rattle.meta.specs.Block.{numbersOf, ofNumbers, fresh, storeIn}
+use Rattle.meta.specs.Load.{load}
+
+-- the number of the answer, and a list
+pub record Answer : Type 0 where
+  pub number : ℕ
+  pub list : List ℕ
+
+abbrev pub answer : ℕ → List ℕ → Answer
+answer n l = record { number = n; list = l }
+
+abbrev pub pick : Bool → Answer → Answer → Answer
+pick true a b = a
+pick false a b = b
+
+-- ## A superblock's fields
+
+abbrev pub shown : Loaded → List ℕ → Answer
+shown (Block b) fields = answer 0 (overwrite 0 (numbersOf b) fields)
+shown (Refused r) fields = answer (numbersOfRefusal r .number) (overwrite 0 (numbersOfRefusal r .first ∷ zeros 20) fields)
+
+unfoldable pub loadFields : List ℕ → List ℕ → Answer
+loadFields block fields =
+    pick (ltb (length block) 16544) (answer 35 fields)
+    (pick (ltb (length fields) 21) (answer 35 fields)
+    (shown (load block) fields))
+
+unfoldable pub freshFields : List ℕ → Answer
+freshFields fields =
+    pick (ltb (length fields) 21) (answer 35 fields)
+    (answer 0 (overwrite 0 (numbersOf fresh) fields))
+
+-- 31 for too many runs; the list is memory
+unfoldable pub storeFields : List ℕ → List ℕ → List ℕ → Answer
+storeFields mem fields runs =
+    pick (ltb (length mem) 16544) (answer 35 mem)
+    (pick (ltb (length fields) 21) (answer 35 mem)
+    (pick (ltb 1024 (getD fields 19 0)) (answer 31 mem)
+    (pick (ltb (length runs) (getD fields 19 0 * 2)) (answer 35 mem)
+    (answer 0 (storeIn (ofNumbers fields) (take (getD fields 19 0 * 2) runs) mem)))))
+
+-- ## Growth
+
+pub record Grew : Type 0 where
+  pub number : ℕ
+  pub mem : List ℕ
+  pub pages : List ℕ
+
+abbrev pub grew : ℕ → List ℕ → List ℕ → Grew
+grew n m p = record { number = n; mem = m; pages = p }
+
+abbrev pub pickGrew : Bool → Grew → Grew → Grew
+pickGrew true a b = a
+pickGrew false a b = b
+
+abbrev pub growthShown : ℕ → List ℕ → Growth → List ℕ → Grew
+growthShown before mem (Grown after) pages = grew 0 mem (overwrite 0 (before ∷ after .0 ∷ []) pages)
+growthShown before mem (GrowthRefused r) pages =
+    grew (numbersOfRefusal r .number) mem (overwrite 0 (numbersOfRefusal r .first ∷ numbersOfRefusal r .second ∷ []) pages)
+
+unfoldable pub growPages : List ℕ → ℕ → ℕ → List ℕ → Grew
+growPages mem count end pages =
+    pickGrew (ltb (length pages) 2) (grew 35 mem pages)
+    (growthShown count (growTo 65536 count end mem .mem) (growTo 65536 count end mem .growth) pages)
+
+-- ## Laws
+
+pub load-shown : (block fields : List ℕ) (x : Loaded) → 16544 ≤ length block → 21 ≤ length fields → x ≡ load block → shown x fields ≡ loadFields block fields
+unfolding loadFields
+load-shown block fields x a b e = sym (rw (le-ltb (length block) 16544 a, le-ltb (length fields) 21 b) (ap (λ (y : Loaded). shown y fields) (sym e)))
+
+pub grow-shown : (mem : List ℕ) (count end : ℕ) (pages : List ℕ) (o : Outcome) → 2 ≤ length pages → o ≡ growTo 65536 count end mem
+    → growthShown count (o .mem) (o .growth) pages ≡ growPages mem count end pages
+unfolding growPages
+grow-shown mem count end pages o a e = sym (rw (le-ltb (length pages) 2 a) (ap (λ (y : Outcome). growthShown count (y .mem) (y .growth) pages) (sym e)))
