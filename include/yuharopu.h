@@ -30,8 +30,9 @@ uint64_t yuharopu_fold_fnv1a64(uint64_t hash, const uint8_t *bytes, size_t len);
 uint64_t yuharopu_page_count_for_size(uint64_t size);
 
 /* Memory of `count` stable pages grows until it reaches the byte offset `end`: the new stable pages become zeros.
- * pages[0] is the count before, pages[1] the count that is required; 32 where the lent bytes do not hold that many
- * (memory unchanged), 35 where `pages` has fewer than two places. */
+ * pages[0] is the count before, pages[1] the count that is required, which is `count` where it reaches `end` already.
+ * 32 where it does not and the lent bytes do not hold the required count (memory unchanged), 35 where `pages` has
+ * fewer than two places. */
 uint64_t yuharopu_grow(uint8_t *mem, size_t mem_len, uint64_t count, uint64_t end, uint64_t *pages, size_t pages_len);
 
 /* The fields of a fresh image's superblock. 35 where `fields` has fewer than 21 places. */
@@ -42,9 +43,9 @@ uint64_t yuharopu_superblock_fresh(uint64_t *fields, size_t fields_len);
 uint64_t yuharopu_superblock_load(const uint8_t *block, size_t block_len, uint64_t *fields, size_t fields_len);
 
 /* Stores a superblock of these fields and zero runs (two numbers a run, start then end) in the first bytes of `mem`,
- * with version 8 and the checksum that belongs to it, and nothing after the last run. 31 where zero_extent_count is
- * above 1,024, 35 where `mem`, `fields` or `runs` is too short; nothing changes then. Only the low 32 bits of the
- * page size count. */
+ * with version 8 and the checksum that belongs to it, and nothing after the last run. 35 where `mem` has fewer than
+ * 16,544 bytes or `fields` fewer than 21 places, 31 where zero_extent_count is above 1,024, 35 where `runs` has fewer
+ * than two numbers a run; nothing changes then. Only the low 32 bits of the page size count. */
 uint64_t yuharopu_superblock_store(uint8_t *mem, size_t mem_len, const uint64_t *fields, size_t fields_len,
                                    const uint64_t *runs, size_t runs_len);
 

@@ -56,7 +56,7 @@ fn store_unchanged(memory_len: usize, fields: &[u64], runs: &[u64]) -> u64 {
 fn memory_of_a_store() {
     for count in [0, 1, 7, 1_024] {
         let block = some_block(count);
-        for len in 0..block::prefix_len(count) {
+        for len in 0..block::BYTES {
             let answer = store_unchanged(len, &block.fields, &block.runs);
             assert_eq!(answer, TOO_SHORT, "{len} bytes for {count} runs");
         }
@@ -78,7 +78,7 @@ fn fields_and_runs_of_a_store() {
     }
 }
 
-/// No list is long enough for these counts, so that both refusals are right.
+/// Counts for which no list is long enough: 31, which asks nothing of the runs.
 #[test]
 fn counts_that_no_list_can_have() {
     let mut block = some_block(1_024);
@@ -86,10 +86,7 @@ fn counts_that_no_list_can_have() {
         for count in [1 << shift, (1 << shift) + 1, u64::MAX >> (63 - shift)] {
             block.fields[block::COUNT] = count;
             let answer = store_unchanged(STABLE_PAGE, &block.fields, &block.runs);
-            assert!(
-                answer == TOO_SHORT || answer == TOO_MANY_RUNS,
-                "{count} runs: {answer}"
-            );
+            assert_eq!(answer, TOO_MANY_RUNS, "{count} runs");
         }
     }
 }
