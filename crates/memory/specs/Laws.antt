@@ -93,14 +93,14 @@ module _ (at : ℕ) (new xs : List ℕ) where
     unfolding overwrite
     overwrite-hi h = below i (length xs)
         (λ lo.
-            let front : length (take at xs) ≡ at = length-take at xs ∙ omega arith in
-            let mid : length (take (length xs - at) new) ≡ length new = length-take (length xs - at) new ∙ omega arith in
-            append-at (take at xs) _ i (omega arith)
-            ∙ ap (λ (j : ℕ). getD (take (length xs - at) new ++ drop (at + length new) xs) (i - j) 0) front
-            ∙ append-at (take (length xs - at) new) _ (i - at) (omega arith)
-            ∙ ap (λ (j : ℕ). getD (drop (at + length new) xs) (i - at - j) 0) mid
-            ∙ getD-drop (at + length new) xs (i - at - length new) 0
-            ∙ ap (λ (j : ℕ). getD xs j 0) (omega arith))
+        let front : length (take at xs) ≡ at = length-take at xs ∙ omega arith in
+        let mid : length (take (length xs - at) new) ≡ length new = length-take (length xs - at) new ∙ omega arith in
+        append-at (take at xs) _ i (omega arith)
+        ∙ ap (λ (j : ℕ). getD (take (length xs - at) new ++ drop (at + length new) xs) (i - j) 0) front
+        ∙ append-at (take (length xs - at) new) _ (i - at) (omega arith)
+        ∙ ap (λ (j : ℕ). getD (drop (at + length new) xs) (i - at - j) 0) mid
+        ∙ getD-drop (at + length new) xs (i - at - length new) 0
+        ∙ ap (λ (j : ℕ). getD xs j 0) (omega arith))
         (λ hi. List·getD-eq-default (overwrite at new xs) 0 (omega (arith, length-overwrite)) ∙ sym (List·getD-eq-default xs 0 hi))
 
 -- nothing is written past the end
@@ -116,20 +116,20 @@ overwrite-nil at xs = ext-getD 0 _ _ (length-overwrite at [] xs)
 pub overwrite-join : (at : ℕ) (a b xs : List ℕ) → overwrite (at + length a) b (overwrite at a xs) ≡ overwrite at (a ++ b) xs
 overwrite-join at a b xs = ext-getD 0 _ _ (length-overwrite (at + length a) b (overwrite at a xs) ∙ length-overwrite at a xs ∙ sym (length-overwrite at (a ++ b) xs))
     (λ i k.
-        let l : i < length xs = omega (arith, length-overwrite (at + length a) b (overwrite at a xs), length-overwrite at a xs) in
-        let m : i < length (overwrite at a xs) = omega (arith, length-overwrite at a xs) in
-        let n : length (a ++ b) ≡ length a + length b = length-append a b in
-        below i at
-        (λ lo. overwrite-lo (at + length a) b (overwrite at a xs) i (omega arith) ∙ overwrite-lo at a xs i lo ∙ sym (overwrite-lo at (a ++ b) xs i lo))
-        (λ hi. below i (at + length a)
-            (λ lo. overwrite-lo (at + length a) b (overwrite at a xs) i lo ∙ overwrite-in at a xs i hi lo l
-                ∙ sym (List·getD-append a b 0 (i - at) (omega arith)) ∙ sym (overwrite-in at (a ++ b) xs i hi (omega arith) l))
-            (λ up. below i (at + length a + length b)
-                (λ lo. overwrite-in (at + length a) b (overwrite at a xs) i up lo m
-                    ∙ ap (λ (j : ℕ). getD b j 0) (omega arith) ∙ sym (append-at a b (i - at) (omega arith))
-                    ∙ sym (overwrite-in at (a ++ b) xs i hi (omega arith) l))
-                (λ past. overwrite-hi (at + length a) b (overwrite at a xs) i past ∙ overwrite-hi at a xs i up
-                    ∙ sym (overwrite-hi at (a ++ b) xs i (omega arith))))))
+    let l : i < length xs = omega (arith, length-overwrite (at + length a) b (overwrite at a xs), length-overwrite at a xs) in
+    let m : i < length (overwrite at a xs) = omega (arith, length-overwrite at a xs) in
+    let n : length (a ++ b) ≡ length a + length b = length-append a b in
+    below i at
+    (λ lo. overwrite-lo (at + length a) b (overwrite at a xs) i (omega arith) ∙ overwrite-lo at a xs i lo ∙ sym (overwrite-lo at (a ++ b) xs i lo))
+    (λ hi. below i (at + length a)
+    (λ lo. overwrite-lo (at + length a) b (overwrite at a xs) i lo ∙ overwrite-in at a xs i hi lo l
+    ∙ sym (List·getD-append a b 0 (i - at) (omega arith)) ∙ sym (overwrite-in at (a ++ b) xs i hi (omega arith) l))
+    (λ up. below i (at + length a + length b)
+    (λ lo. overwrite-in (at + length a) b (overwrite at a xs) i up lo m
+    ∙ ap (λ (j : ℕ). getD b j 0) (omega arith) ∙ sym (append-at a b (i - at) (omega arith))
+    ∙ sym (overwrite-in at (a ++ b) xs i hi (omega arith) l))
+    (λ past. overwrite-hi (at + length a) b (overwrite at a xs) i past ∙ overwrite-hi at a xs i up
+    ∙ sym (overwrite-hi at (a ++ b) xs i (omega arith))))))
 
 -- a part that was lent and comes back
 pub part-back : (at k : ℕ) (xs new : List ℕ) → length new ≡ k → at + k ≤ length xs → putMid at k xs new ≡ overwrite at new xs
@@ -142,27 +142,27 @@ part-back at k xs new l h =
 pub overwrite-cut : (at n : ℕ) (new xs : List ℕ) → length xs ≤ at + n → overwrite at (take n new) xs ≡ overwrite at new xs
 overwrite-cut at n new xs h = ext-getD 0 _ _ (length-overwrite at (take n new) xs ∙ sym (length-overwrite at new xs))
     (λ i k.
-        let l : i < length xs = omega (arith, length-overwrite at (take n new) xs) in
-        let m : length (take n new) ≡ min n (length new) = length-take n new in
-        below i at
-        (λ lo. overwrite-lo at (take n new) xs i lo ∙ sym (overwrite-lo at new xs i lo))
-        (λ hi. below i (at + length new)
-            (λ lo. overwrite-in at (take n new) xs i hi (omega arith) l ∙ getD-take n new (i - at) 0 (omega arith) ∙ sym (overwrite-in at new xs i hi lo l))
-            (λ past. overwrite-hi at (take n new) xs i (omega arith) ∙ sym (overwrite-hi at new xs i past))))
+    let l : i < length xs = omega (arith, length-overwrite at (take n new) xs) in
+    let m : length (take n new) ≡ min n (length new) = length-take n new in
+    below i at
+    (λ lo. overwrite-lo at (take n new) xs i lo ∙ sym (overwrite-lo at new xs i lo))
+    (λ hi. below i (at + length new)
+    (λ lo. overwrite-in at (take n new) xs i hi (omega arith) l ∙ getD-take n new (i - at) 0 (omega arith) ∙ sym (overwrite-in at new xs i hi lo l))
+    (λ past. overwrite-hi at (take n new) xs i (omega arith) ∙ sym (overwrite-hi at new xs i past))))
 
 -- all of xs
 pub overwrite-all : (new xs : List ℕ) → length new ≡ length xs → overwrite 0 new xs ≡ new
 overwrite-all new xs e = ext-getD 0 _ _ (length-overwrite 0 new xs ∙ sym e)
     (λ i k.
-        let l : i < length xs = omega (arith, length-overwrite 0 new xs) in
-        overwrite-in 0 new xs i (omega arith) (omega arith) l ∙ ap (λ (j : ℕ). getD new j 0) (omega arith))
+    let l : i < length xs = omega (arith, length-overwrite 0 new xs) in
+    overwrite-in 0 new xs i (omega arith) (omega arith) l ∙ ap (λ (j : ℕ). getD new j 0) (omega arith))
 
 -- over zeros, from the first on
 pub overwrite-zeros : (n : ℕ) (new : List ℕ) → overwrite 0 new (zeros n) ≡ resize n new
 overwrite-zeros n new = ext-getD 0 _ _ (length-overwrite 0 new (zeros n) ∙ length-zeros n ∙ sym (length-resize n new))
     (λ i k.
-        let l : i < n = omega (arith, length-overwrite 0 new (zeros n), length-zeros n) in
-        let m : i < length (zeros n) = omega (arith, length-zeros n) in
-        below i (length new)
-        (λ lo. overwrite-in 0 new (zeros n) i (omega arith) (omega arith) m ∙ ap (λ (j : ℕ). getD new j 0) (omega arith) ∙ sym (resize-in n new i l))
-        (λ hi. overwrite-hi 0 new (zeros n) i (omega arith) ∙ zeros-at n i ∙ sym (resize-in n new i l ∙ List·getD-eq-default new 0 hi)))
+    let l : i < n = omega (arith, length-overwrite 0 new (zeros n), length-zeros n) in
+    let m : i < length (zeros n) = omega (arith, length-zeros n) in
+    below i (length new)
+    (λ lo. overwrite-in 0 new (zeros n) i (omega arith) (omega arith) m ∙ ap (λ (j : ℕ). getD new j 0) (omega arith) ∙ sym (resize-in n new i l))
+    (λ hi. overwrite-hi 0 new (zeros n) i (omega arith) ∙ zeros-at n i ∙ sym (resize-in n new i l ∙ List·getD-eq-default new 0 hi)))

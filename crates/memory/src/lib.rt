@@ -2,16 +2,14 @@
 // stable pages of its length are the ceiling.
 mod part;
 
+use config::Refusal;
+use config::STABLE_PAGE_SIZE;
+use config::StablePages;
 pub use part::copy;
 pub use part::fill;
 pub use part::read;
 pub use part::write;
 pub use part::zero;
-
-use config::Refusal;
-use config::StablePages;
-use config::STABLE_PAGE_SIZE;
-
 ghost use mathlib.Core.Path.{_≡_};
 ghost use Prim.Native.Nat.{_*_, _/_, min};
 ghost use lib.ListN.{length};

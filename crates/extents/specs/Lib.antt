@@ -1,0 +1,3 @@
+pub mod Sets
+pub mod Members
+pub mod SetLaws

@@ -1,0 +1,1 @@
+// Sets of zero pages, kept as their maximal runs.
