@@ -1,3 +1,5 @@
 pub mod Sets
 pub mod Members
 pub mod SetLaws
+pub mod Flat
+pub mod FlatLaws

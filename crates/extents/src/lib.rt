@@ -1,1 +1,5 @@
-// Sets of zero pages, kept as their maximal runs.
+// Sets of zero pages, each kept as its maximal runs in a list of numbers that the caller lends.
+mod work;
+
+pub use work::add;
+pub use work::remove;
