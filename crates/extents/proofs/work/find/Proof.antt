@@ -13,7 +13,7 @@ abbrev μ-loop : tie.MeasureT-loop
 μ-loop work count page lo₀ hi₀ lo hi = hi - lo
 
 returns : tie.Need-returns Inv-loop μ-loop
-returns c = 
+returns c =
     let a = c .before .before .args in
     omega (arith, place-le (a .work .now) (a .count) (a .page))
 
@@ -24,7 +24,7 @@ read-requires : tie.Need-read-requires Inv-loop μ-loop
 read-requires c κs = search needs
 
 returns-2 : tie.Need-returns-2 Inv-loop μ-loop
-returns-2 c = 
+returns-2 c =
     let a = c .before .before .before .before .before .args in
     let x = c .before .before .read in
     omega (arith, place-le (a .work .now) (a .count) (a .page), place-up (a .work .now) (a .count) (a .page) (a .count - 1) (x .result) (omega arith) (x .ensures) (c .before .before .before .before .before .pre .1) (c .if2 .taken))
@@ -33,7 +33,7 @@ sub-hi : tie.Need-sub-hi Inv-loop μ-loop
 sub-hi c = search needs
 
 loop-holds : tie.Need-loop-holds Inv-loop μ-loop
-loop-holds c = 
+loop-holds c =
     let a = c .before .before .before .before .before .args in
     let x = c .before .before .read in
     omega (arith, place-down (a .work .now) (a .count) (a .page) (a .count - 1) (x .result) (omega arith) (x .ensures) (c .if2 .left))
@@ -54,7 +54,7 @@ loop-less : tie.Need-loop-less Inv-loop μ-loop
 loop-less c = search needs
 
 loop-again : tie.Need-loop-again Inv-loop μ-loop
-loop-again c = 
+loop-again c =
     let l = c .before .before .before .before in
     let s = l .before .before .before .before .before .before in
     let a = s .args in
@@ -66,7 +66,7 @@ loop-less-2 : tie.Need-loop-less-2 Inv-loop μ-loop
 loop-less-2 c = search needs
 
 loop-again-2 : tie.Need-loop-again-2 Inv-loop μ-loop
-loop-again-2 c = 
+loop-again-2 c =
     let l = c .before .before .before .before in
     let a = l .before .before .before .before .before .before .args in
     let x = c .before .before .read2 in
