@@ -2,7 +2,7 @@
 use Prim.Native.Nat.{ℕ, zero, suc, _+_, _-_, _*_, _≤_, _<_}
 use mathlib.Core.Bool.{Bool, true, false}
 use mathlib.Core.List.{List, [], _∷_, _++_}
-use lib.ListN.{length, getD, set, take, drop}
+use lib.ListN.{length, getD, set, take, drop, replicate}
 use lib.Dec.{ltb}
 use Rattle.meta.specs.declared.ZeroExtent.{ZeroExtent}
 use Rattle.meta.specs.Runs.{run, runsOf, numbersOf}
@@ -22,6 +22,14 @@ out w n = record { work = w; count = n }
 -- the list w with the runs l in front, and how many they are; the numbers past them are as they were
 unfoldable pub held : List ℕ → List ZeroExtent → Out
 held w l = out (numbersOf l ++ drop (length l * 2) w) (length l)
+
+-- n numbers: those of l, and zeros
+unfoldable pub padded : ℕ → List ℕ → List ℕ
+padded n l = l ++ replicate (n - length l) 0
+
+-- a list of n numbers that holds the runs l in front, then zeros; and how many they are
+unfoldable pub laid : ℕ → List ZeroExtent → Out
+laid n l = out (padded n (numbersOf l)) (length l)
 
 -- ## As the code walks it
 

@@ -1,20 +1,20 @@
 -- The laws of runs in a list of numbers.
 use Prim.Native.Nat.{ℕ, zero, suc, _+_, _-_, _*_, _/_, _≤_, _<_, min}
 use mathlib.Core.Path.{_≡_, refl, sym, ap, _∙_}
-use mathlib.Core.Bool.{Bool, true, false}
-use mathlib.Core.List.{List, [], _∷_, _++_, append-assoc}
+use mathlib.Core.Bool.{Bool, true, false, _||_, or-assoc, or-comm}
+use mathlib.Core.List.{List, [], _∷_, _++_, append-assoc, append-nil}
 use mathlib.Core.Logic.{⊎-elim}
 use native.Mathlib.Omega.{arith}
 use lib.Dec.{ltb}
-use lib.ListN.{length, getD, set, take, drop, length-set, length-append, length-take, length-drop, take-append-drop}
+use lib.ListN.{length, getD, set, take, drop, length-set, length-append, length-take, length-drop, take-append-drop, replicate, length-replicate}
 use lib.Seq.{getD-set-same, getD-set-other, set-getD, drop-set-lt, take-set-le, drop-drop, drop-cons, take-all, take-at, drop-at, take-take, set-split, take-suc, take-suc-set}
 use borrow.Author.Tests.{lt-ltb, le-ltb}
 use Rattle.meta.specs.declared.ZeroExtent.{ZeroExtent}
 use Rattle.meta.specs.Runs.{run, runsOf, numbersOf, normalized}
 use Rattle.extents.specs.Sets.{within, covers, join, merge, insert, add, maximal, without, piece, remove}
 use Rattle.extents.specs.Members.{From, le-or-lt, merge-nil, merge-stop, merge-join, insert-nil, insert-skip, insert-here, remove-nil, remove-skip, remove-not, remove-here, add-none, add-some, add-length, remove-length}
-use Rattle.extents.specs.SetLaws.{split, normalized-from, from-normalized, maximal-self, maximal-more, maximal-without, maximal-less}
-use Rattle.extents.specs.Flat.{runsIn, Out, out, held, at, put, seg, upto, write, place}
+use Rattle.extents.specs.SetLaws.{split, covers-append, maximal-covers, maximal-normalized, maximal-alike, normalized-from, from-normalized, maximal-self, maximal-more, maximal-without, maximal-less}
+use Rattle.extents.specs.Flat.{runsIn, Out, out, held, padded, laid, at, put, seg, upto, write, place}
 
 pub length-put : (w : List ℕ) (i : ℕ) (x : ZeroExtent) → length (put w i x) ≡ length w
 unfolding put
@@ -367,3 +367,97 @@ module _ (w : List ℕ) (n : ℕ) (h : n * 2 + 1 < length w) (f : normalized (ru
   held-remove p =
       let e : runsIn n w ≡ upto w 0 n = runsIn-upto w n (omega arith) in
       rw (maximal-without p (runsIn n w) f, e) (write-held w (remove p (upto w 0 n)) (omega (arith, remove-length p (upto w 0 n), length-upto w 0 n)))
+
+-- the first n of numbers that may be fewer
+pub upto-most : (w : List ℕ) (n : ℕ) → upto w 0 (min n (length w / 2)) ≡ runsIn n w
+upto-most w n = sym (runsIn-upto w (min n (length w / 2)) (omega arith)) ∙ runsIn-most w n
+
+pub none-normalized : (w : List ℕ) → normalized (runsIn 0 w) ≡ true
+unfolding runsIn normalized
+none-normalized w = refl
+
+-- after an addition or a removal there is at most one run more, and the runs are normalized
+module _ (w w′ : List ℕ) (n r : ℕ) (h : n * 2 ≤ length w) (f : normalized (runsIn n w) ≡ true) where
+  pub add-count : (x : ZeroExtent) → out w′ r ≡ held w (maximal (x ∷ runsIn n w)) → r ≤ n + 1
+  add-count x e =
+      let m : length (maximal (x ∷ runsIn n w)) ≤ suc (length (maximal (runsIn n w))) = maximal-more x (runsIn n w) in
+      let k : length (maximal (runsIn n w)) ≡ n = ap length (maximal-self (runsIn n w) f) ∙ length-runsIn w n h in
+      omega (arith, held-count w w′ r (maximal (x ∷ runsIn n w)) e)
+
+  pub remove-count : (p : ℕ) → out w′ r ≡ held w (maximal (without p (runsIn n w))) → r ≤ n + 1
+  remove-count p e = omega (arith, held-count w w′ r (maximal (without p (runsIn n w))) e, maximal-less p (runsIn n w) f, length-runsIn w n h)
+
+pub held-normalized : (w w′ : List ℕ) (r : ℕ) (l : List ZeroExtent) → out w′ r ≡ held w (maximal l) → normalized (runsIn r w′) ≡ true
+held-normalized w w′ r l e = rw (held-runs w w′ r (maximal l) e) (maximal-normalized l)
+
+-- ## Zeros at the end
+
+length-padded : (n : ℕ) (l : List ℕ) → length l ≤ n → length (padded n l) ≡ n
+unfolding padded
+length-padded n l h = omega (arith, length-append l (replicate (n - length l) 0), length-replicate {A = ℕ} (n - length l) 0)
+
+padded-more : (n : ℕ) (l : List ℕ) → length l < n → padded n (l ++ (0 ∷ [])) ≡ padded n l
+unfolding padded
+padded-more n l h =
+    let e : n - length l ≡ suc (n - length (l ++ (0 ∷ []))) = omega (arith, length-append l (0 ∷ [])) in
+    append-assoc l (0 ∷ []) _ ∙ rw e
+
+padded-all : (n : ℕ) (l : List ℕ) → n ≤ length l → padded n l ≡ l
+unfolding padded
+padded-all n l h = let e : n - length l ≡ 0 = omega arith in rw e (append-nil l)
+
+pub clear-step : (n k : ℕ) (w : List ℕ) → length w ≡ n → k < n → padded n (take (k + 1) (set w k 0)) ≡ padded n (take k w)
+clear-step n k w e h =
+    let f : k + 1 ≡ suc k = omega arith in
+    rw (f, take-suc-set w k 0 (omega arith)) (padded-more n (take k w) (omega (arith, length-take k w)))
+
+pub clear-last : (n k : ℕ) (w : List ℕ) → length w ≡ n → n ≤ k → padded n (take k w) ≡ w
+clear-last n k w e h = rw (take-all k w (omega arith)) (padded-all n w (omega arith))
+
+numbers-runs : (v : List ℕ) (k : ℕ) → length v ≡ k * 2 → numbersOf (runsOf v) ≡ v
+numbers-runs [] k e = refl
+numbers-runs (a ∷ []) k e = absurd (omega arith)
+numbers-runs (a ∷ b ∷ v) zero e = absurd (omega arith)
+numbers-runs (a ∷ b ∷ v) (suc k) e = λ i. a ∷ b ∷ numbers-runs v k (omega arith) i
+
+-- the runs that the list holds, and zeros behind them
+pub laid-cleared : (n r : ℕ) (w : List ℕ) (l : List ZeroExtent) → r * 2 ≤ length w → runsIn r w ≡ l → out (padded n (take (r * 2) w)) r ≡ laid n l
+unfolding laid runsIn
+laid-cleared n r w l h e =
+    let t : numbersOf l ≡ take (r * 2) w = ap numbersOf (sym e) ∙ numbers-runs (take (r * 2) w) r (omega (arith, length-take (r * 2) w)) in
+    let c : length l ≡ r = ap length (sym e) ∙ length-runsIn w r h in
+    rw (t, c)
+
+-- ## Runs copied in, one by one
+
+-- the run x has been added to the runs l, and the rest is to come
+turned : (x : ZeroExtent) (rest l : List ZeroExtent) (p : ℕ) → covers (rest ++ maximal (x ∷ l)) p ≡ covers (x ∷ (rest ++ l)) p
+turned x rest l p =
+    covers-append rest (maximal (x ∷ l)) p
+    ∙ ap (λ (b : Bool). covers rest p || b) (maximal-covers (x ∷ l) p)
+    ∙ sym (or-assoc (covers rest p) (within x p) (covers l p))
+    ∙ ap (λ (b : Bool). b || covers l p) (or-comm (covers rest p) (within x p))
+    ∙ or-assoc (within x p) (covers rest p) (covers l p)
+    ∙ ap (λ (b : Bool). within x p || b) (sym (covers-append rest l p))
+
+module _ (v : List ℕ) (n : ℕ) where
+  pub gather-start : (w : List ℕ) → maximal (upto v 0 n ++ runsIn 0 w) ≡ maximal (upto v 0 n)
+  unfolding runsIn
+  gather-start w = ap maximal (append-nil (upto v 0 n))
+
+  pub gather-step : (i : ℕ) (x : ZeroExtent) (l k : List ZeroExtent) → i < n → x ≡ at v i → k ≡ maximal (x ∷ l) → maximal (upto v (i + 1) n ++ k) ≡ maximal (upto v i n ++ l)
+  gather-step i x l k h e g = rw (upto-more v i n h, ← e, g) (maximal-alike (upto v (i + 1) n ++ maximal (x ∷ l)) (x ∷ (upto v (i + 1) n ++ l)) (turned x (upto v (i + 1) n) l))
+
+  pub gather-last : (i : ℕ) (l : List ZeroExtent) → n ≤ i → normalized l ≡ true → maximal (upto v i n ++ l) ≡ l
+  gather-last i l h f = rw (upto-none v i n h) (maximal-self l f)
+
+  -- a page looked for
+  module _ (i p : ℕ) where
+    pub seek-miss : (x : ZeroExtent) → i < n → x ≡ at v i → within x p ≡ false → covers (upto v i n) p ≡ covers (upto v (i + 1) n) p
+    seek-miss x h e f = rw (upto-more v i n h, ← e, f)
+
+    pub seek-hit : (x : ZeroExtent) → i < n → x ≡ at v i → within x p ≡ true → covers (upto v i n) p ≡ true
+    seek-hit x h e f = rw (upto-more v i n h, ← e, f)
+
+    pub seek-last : n ≤ i → covers (upto v i n) p ≡ false
+    seek-last h = rw (upto-none v i n h)

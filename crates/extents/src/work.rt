@@ -4,10 +4,10 @@ ghost use mathlib.Core.Path.{_≡_};
 ghost use mathlib.Core.Bool.{true};
 ghost use Prim.Native.Nat.{_+_, _*_, _≤_, _<_, min, max};
 ghost use mathlib.Core.List.{_∷_};
-ghost use lib.ListN.{length};
+ghost use lib.ListN.{length, take};
 ghost use Rattle.meta.specs.Runs.{run, normalized};
-ghost use Rattle.extents.specs.Sets.{merge, maximal, without, piece};
-ghost use Rattle.extents.specs.Flat.{runsIn, out, held, at, put, upto, write, place};
+ghost use Rattle.extents.specs.Sets.{within, covers, merge, maximal, without, piece};
+ghost use Rattle.extents.specs.Flat.{runsIn, out, held, padded, laid, at, put, upto, write, place};
 
 pub fn read(work: &[u64], i: usize) -> ZeroExtent
     requires { ⌜ i * 2 + 1 < length (now work) ⌝ }
@@ -194,4 +194,73 @@ pub fn remove(work: &mut [u64], count: usize, page: u64) -> usize
         return count;
     }
     cut(work, count, i, x, page)
+}
+
+pub fn at_most(a: usize, b: usize) -> usize
+    ensures { λ r. ⌜ r ≡ min a b ⌝ }
+{
+    if b < a { b } else { a }
+}
+
+// Whether a run has the page.
+pub fn has(x: ZeroExtent, page: u64) -> bool
+    ensures { λ r. ⌜ r ≡ within x page ⌝ }
+{
+    if page < x.start {
+        return false;
+    }
+    page < x.end
+}
+
+// Whether one of the first `count` runs has the page: any runs, in any order.
+pub fn covered(runs: &[u64], count: usize, page: u64) -> bool
+    ensures { λ r. ⌜ r ≡ covers (runsIn count (now (runs .entry))) page ⌝ }
+{
+    let n = at_most(count, runs.len() / 2);
+    let mut i = 0;
+    while i < n {
+        let x = read(runs, i);
+        if has(x, page) {
+            return true;
+        }
+        i += 1;
+    }
+    false
+}
+
+// The numbers from `from` on become zeros.
+pub fn clear(work: &mut [u64], from: usize)
+    ensures { λ _. ⌜ now (work .exit) ≡ padded (length (now (work .entry))) (take from (now (work .entry))) ⌝ }
+{
+    let mut k = from;
+    while k < work.len() {
+        work[k] = 0;
+        k += 1;
+    }
+}
+
+// The maximal runs of the set that the first `count` runs denote, any runs, in front of the list: how many they are.
+pub fn gather(work: &mut [u64], runs: &[u64], count: usize) -> usize
+    requires { ⌜ count * 2 ≤ length (now work) ⌝ }
+    ensures { λ r. ⌜ (runsIn r (now (work .exit)) ≡ maximal (runsIn count (now (runs .entry)))) × (r ≤ count) ⌝ }
+{
+    let n = at_most(count, runs.len() / 2);
+    let mut i = 0;
+    let mut have = 0;
+    while i < n {
+        let x = read(runs, i);
+        have = add(work, have, x.start, x.end);
+        i += 1;
+    }
+    have
+}
+
+// As `gather`, and the rest of the list becomes zeros.
+pub fn copy_runs(work: &mut [u64], runs: &[u64], count: usize) -> usize
+    requires { ⌜ count * 2 ≤ length (now work) ⌝ }
+    ensures { λ r. ⌜ out (now (work .exit)) r ≡ laid (length (now (work .entry))) (maximal (runsIn count (now (runs .entry)))) ⌝ }
+{
+    let have = gather(work, runs, count);
+    clear(work, have * 2);
+    have
 }
