@@ -1,11 +1,11 @@
 -- The laws of the plan: that it depends on the set alone, and what each turn of the code makes of it.
-use Prim.Native.Nat.{ℕ, zero, suc, _+_, _-_, _*_, _≤_, _<_}
+use Prim.Native.Nat.{ℕ, zero, suc, _+_, _-_, _*_, _≤_, _<_, min}
 use mathlib.Core.Path.{_≡_, refl, sym, ap, _∙_}
 use mathlib.Core.Bool.{Bool, true, false}
 use mathlib.Core.List.{List, [], _∷_, _++_}
 use native.Mathlib.Omega.{arith}
 use lib.ListN.{length, getD, take, drop, length-take, drop-of-length-le}
-use lib.Seq.{drop-cons, getD-take}
+use lib.Seq.{drop-cons, getD-take, take-all, take-length}
 use lib.Dec.{ltb, leb}
 use borrow.Author.Tests.{ltb-true, ltb-false, leb-true, leb-false, lt-ltb, le-ltb, le-leb, lt-leb}
 use Rattle.config.specs.Pages.{count}
@@ -13,9 +13,12 @@ use Rattle.meta.specs.declared.ZeroExtent.{ZeroExtent}
 use Rattle.meta.specs.Runs.{run, normalized}
 use Rattle.runs.specs.Sets.{covers, add, maximal, without}
 use Rattle.runs.specs.SetLaws.{split, maximal-covers, maximal-alike, maximal-self, maximal-again, maximal-empty, without-alike}
-use Rattle.runs.specs.Flat.{runsIn, out, held, at, upto}
-use Rattle.runs.specs.FlatLaws.{upto-more, upto-none, length-runsIn, held-count, held-runs, held-normalized, add-count, remove-count}
+use Rattle.runs.specs.Flat.{runsIn, Out, out, held, padded, laid, at, upto}
+use Rattle.runs.specs.FlatLaws.{upto-more, upto-none, length-runsIn, held-count, held-runs, held-normalized, add-count, remove-count, laid-cleared}
 use Rattle.extents.specs.Plan.{Answer, tooMany, kept, pick, keepIf, optional, below, additions, addOne, addEach, removeEach, remain, plan}
+use Rattle.extents.specs.Outcome.{Outcome, outcome, planned}
+use Rattle.extents.specs.declared.Planned.{Planned}
+use Rattle.extents.specs.declared.Planned.the-variants.{Runs, TooMany}
 
 -- the set by its maximal runs
 abbrev pub norm : Answer → Answer
@@ -271,3 +274,51 @@ unfolding remain told
 remain-told top limit r q ps w w′ h k e =
     let c : q ≡ length (maximal (removeEach ps (runsIn r w))) = sym (length-runsIn w′ q k) ∙ ap length e in
     rw (told-kept limit r w h, e, c)
+
+-- the code's numbers: the pages of the new size, the limit, n runs at the start
+module _ (P top old new limit end n : ℕ) (w : List ℕ) (recorded : List ZeroExtent) (dirty : List ℕ)
+    (e : end ≡ count P new) (l : limit ≡ top + length (below end dirty)) (h : n ≤ top) where
+  settle-parts : (a b : Answer) → a ≡ norm (addEach limit (additions P old new []) (told limit n w)) → b ≡ norm (addEach limit recorded a)
+      → remain top (below end dirty) b ≡ plan P top old new (runsIn n w) recorded dirty
+  settle-parts a b f g =
+      let k : told limit n w ≡ kept (runsIn n w) = told-kept limit n w (omega arith) in
+      let m : limit ≡ top + length (below (count P new) dirty) = l ∙ ap (λ (x : ℕ). top + length (below x dirty)) e in
+      rw e (plan-parts P top old new (runsIn n w) recorded dirty a b (rw (k, m) at f) (rw m at g))
+
+  module _ (g r : ℕ) (w₁ w₂ : List ℕ) (resized : Added limit g w₁ (addEach limit (additions P old new []) (told limit n w))) (added : Added limit r w₂ (addEach limit recorded (told limit g w₁))) where
+    whole : remain top (below end dirty) (told limit r w₂) ≡ plan P top old new (runsIn n w) recorded dirty
+    whole = settle-parts (told limit g w₁) (told limit r w₂) (resized .says) (added .says)
+
+    pub settle-not : limit < r → told top r w₂ ≡ plan P top old new (runsIn n w) recorded dirty
+    settle-not k = remain-not top limit r (below end dirty) w₂ (omega arith) k ∙ whole
+
+    pub settle-left : (m q : ℕ) (w₃ : List ℕ) → r ≤ limit → q * 2 ≤ length w₃ → Left m q w₃ (removeEach (below end dirty) (runsIn r w₂)) → told top q w₃ ≡ plan P top old new (runsIn n w) recorded dirty
+    settle-left m q w₃ k j d = remain-told top limit r q (below end dirty) w₂ w₃ k j (d .says) ∙ whole
+
+-- the dirty pages are no more than the numbers
+pub take-most : (v : List ℕ) (d : ℕ) → take (min d (length v)) v ≡ take d v
+take-most v d = split (leb d (length v))
+    (λ t. let e : min d (length v) ≡ d = omega (arith, leb-true d (length v) t) in rw e)
+    (λ f. let e : min d (length v) ≡ length v = omega (arith, leb-false d (length v) f) in rw (e, take-length v, take-all d v (omega (arith, leb-false d (length v) f))))
+
+pub tally-most : (end d : ℕ) (v : List ℕ) → length (below end (take d v)) ≤ d
+tally-most end d v = omega (arith, below-most end (take d v), length-take d v)
+
+-- what the code is lent: n normalized runs, and room for one run more than the limit and one for each removal
+pub record Lent (n d : ℕ) (w : List ℕ) : Type 0 where
+  pub few : n ≤ 1024
+  pub room : (1025 + d * 2) * 2 ≤ length w
+  pub tidy : normalized (runsIn n w) ≡ true
+
+-- ## The answer and the list at the end
+
+module _ (n r : ℕ) (w : List ℕ) where
+  pub ends-not : 1024 < r → planned n (told 1024 r w) ≡ outcome TooMany (padded n (take 0 w))
+  unfolding planned
+  ends-not h = rw (told-not 1024 r w h)
+
+  pub ends-runs : r ≤ 1024 → r * 2 ≤ length w → planned n (told 1024 r w) ≡ outcome (Runs r) (padded n (take (r * 2) w))
+  unfolding planned laid
+  ends-runs h k =
+      let e : laid n (runsIn r w) ≡ out (padded n (take (r * 2) w)) r = sym (laid-cleared n r w (runsIn r w) k refl) in
+      rw (told-kept 1024 r w h) (λ i. outcome (Runs (e i .count)) (e i .work))

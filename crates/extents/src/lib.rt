@@ -9,9 +9,16 @@ ghost use Rattle.runs.specs.Sets.{maximal};
 ghost use Rattle.runs.specs.Flat.{runsIn};
 ghost use Rattle.runs.specs.Image.{imageRuns};
 ghost use Rattle.extents.specs.Plan.{below, additions, addOne, addEach, removeEach, plan as planOf};
-ghost use Rattle.extents.specs.PlanLaws.{told, Ready, Added, Left};
+ghost use Rattle.extents.specs.Outcome.{outcome, planned};
+ghost use Rattle.extents.specs.PlanLaws.{told, Ready, Added, Left, Lent};
 
 pub const MAX_ZERO_EXTENTS: usize = 1_024;
+
+// How many zero runs the image has, which stand in front of the work list; or 31.
+pub enum Planned {
+    Runs(usize),
+    TooMany,
+}
 
 fn is_below(page: u64, end: u64) -> usize
     ensures { λ r. ⌜ (r ≡ length (below end (page ∷ []))) × (r ≤ 1) ⌝ }
@@ -104,4 +111,99 @@ fn remove_dirty(work: &mut [u64], count: usize, numbers: &[u64], dirty: usize, e
         i += 1;
     }
     have
+}
+
+// The additions and the removals, on `count` normalized runs in front of the list. A count above 1,024 says: too many.
+fn settle(
+    work: &mut [u64],
+    count: usize,
+    old: u64,
+    new: u64,
+    recorded: &[u64],
+    entries: usize,
+    numbers: &[u64],
+    dirty: usize,
+) -> usize
+    requires { ⌜ (Lent count dirty (now work)) × (dirty ≤ length (now numbers)) ⌝ }
+    ensures { λ r. ⌜ told 1024 r (now (work .exit)) ≡ planOf 16384 1024 old new (runsIn count (now (work .entry))) (runsIn entries (now (recorded .entry))) (take dirty (now (numbers .entry))) ⌝ }
+{
+    let end = config::page_count_for_size(new);
+    let limit = MAX_ZERO_EXTENTS + count_below(numbers, dirty, end.0);
+    let resized = add_resized(work, count, limit, old, new);
+    let added = add_record(work, resized, limit, recorded, entries);
+    if limit < added {
+        return added;
+    }
+    remove_dirty(work, added, numbers, dirty, end.0)
+}
+
+// The answer; what is not used of the list becomes zeros.
+fn finish(work: &mut [u64], count: usize) -> Planned
+    requires { ⌜ 2048 ≤ length (now work) ⌝ }
+    ensures { λ r. ⌜ outcome r (now (work .exit)) ≡ planned (length (now (work .entry))) (told 1024 count (now (work .entry))) ⌝ }
+{
+    if MAX_ZERO_EXTENTS < count {
+        runs::clear(work, 0);
+        return Planned::TooMany;
+    }
+    runs::clear(work, count * 2);
+    Planned::Runs(count)
+}
+
+// The plan on `count` normalized runs in front of the list, for a commit that takes the size from `old` to `new` bytes:
+// `entries` runs are recorded and `dirty` pages are dirty, by their numbers.
+pub fn plan_on(
+    work: &mut [u64],
+    count: usize,
+    old: u64,
+    new: u64,
+    recorded: &[u64],
+    entries: usize,
+    numbers: &[u64],
+    dirty: usize,
+) -> Planned
+    requires { ⌜ Lent count dirty (now work) ⌝ }
+    ensures { λ r. ⌜ outcome r (now (work .exit)) ≡ planned (length (now (work .entry))) (planOf 16384 1024 old new (runsIn count (now (work .entry))) (runsIn entries (now (recorded .entry))) (take dirty (now (numbers .entry)))) ⌝ }
+{
+    let d = runs::at_most(dirty, numbers.len());
+    let left = settle(work, count, old, new, recorded, entries, numbers, d);
+    finish(work, left)
+}
+
+// The plan on the image's runs, from its bytes.
+pub fn plan(
+    work: &mut [u64],
+    mem: &[u8],
+    image: usize,
+    old: u64,
+    new: u64,
+    recorded: &[u64],
+    entries: usize,
+    numbers: &[u64],
+    dirty: usize,
+) -> Planned
+    requires { ⌜ (1025 + dirty * 2) * 2 ≤ length (now work) ⌝ }
+    ensures { λ r. ⌜ outcome r (now (work .exit)) ≡ planned (length (now (work .entry))) (planOf 16384 1024 old new (imageRuns image (now (mem .entry))) (runsIn entries (now (recorded .entry))) (take dirty (now (numbers .entry)))) ⌝ }
+{
+    let count = runs::gather_image(work, mem, image);
+    plan_on(work, count, old, new, recorded, entries, numbers, dirty)
+}
+
+// The plan on runs given as numbers.
+pub fn plan_numbers(
+    work: &mut [u64],
+    extents: &[u64],
+    image: usize,
+    old: u64,
+    new: u64,
+    recorded: &[u64],
+    entries: usize,
+    numbers: &[u64],
+    dirty: usize,
+) -> Planned
+    requires { ⌜ (image ≤ 1024) × ((1025 + dirty * 2) * 2 ≤ length (now work)) ⌝ }
+    ensures { λ r. ⌜ outcome r (now (work .exit)) ≡ planned (length (now (work .entry))) (planOf 16384 1024 old new (runsIn image (now (extents .entry))) (runsIn entries (now (recorded .entry))) (take dirty (now (numbers .entry)))) ⌝ }
+{
+    let count = runs::gather(work, extents, image);
+    plan_on(work, count, old, new, recorded, entries, numbers, dirty)
 }
