@@ -1,3 +1,4 @@
 pub mod Plan
 pub mod Outcome
 pub mod PlanLaws
+pub mod Examples
