@@ -48,3 +48,20 @@ Right (r ∷ rs) = (plan 16384 1024 (r .old) (r .new) (r .image) (r .recorded) (
 pub examples : Right table
 unfolding plan additions addOne remain count within merge insert add around
 examples = (refl, (refl, (refl, (refl, (refl, (refl, tt))))))
+
+-- what 01 calls tempting, and what lies past the end
+abbrev pub temptations : List Row
+temptations =
+    -- the record 5-6, 6-8, 5-8 would merge with 8-9, but 5-6 alone is the 1,025th run
+    row (5 * 16384) (5 * 16384) (run 8 9 ∷ single 20 1023) (run 5 6 ∷ run 6 8 ∷ run 5 8 ∷ []) [] tooMany
+    -- runs past the end stay, and so do their pages that are dirty
+    ∷ row (2 * 16384) (2 * 16384) (run 5 7 ∷ []) [] (6 ∷ []) (kept (run 5 7 ∷ []))
+    -- dirty pages past the end make no room
+    ∷ row (2049 * 16384) (2050 * 16384) (single 1 1024) (run 2049 2050 ∷ []) (2050 ∷ []) tooMany
+    -- an empty entry is skipped
+    ∷ row 0 0 [] (run 3 3 ∷ run 7 2 ∷ []) [] (kept [])
+    ∷ []
+
+pub tempted : Right temptations
+unfolding plan additions addOne remain count within merge insert add around
+tempted = (refl, (refl, (refl, (refl, tt))))

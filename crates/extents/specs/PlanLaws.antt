@@ -1,33 +1,25 @@
 -- The laws of the plan: that it depends on the set alone, and what each turn of the code makes of it.
 use Prim.Native.Nat.{ℕ, zero, suc, _+_, _-_, _*_, _≤_, _<_, min}
 use mathlib.Core.Path.{_≡_, refl, sym, ap, _∙_}
-use mathlib.Core.Bool.{Bool, true, false}
+use mathlib.Core.Bool.{Bool, true, false, not, _&&_, _||_, and-true, and-false, or-assoc, or-comm}
 use mathlib.Core.List.{List, [], _∷_, _++_}
 use native.Mathlib.Omega.{arith}
 use lib.ListN.{length, getD, take, drop, length-take, drop-of-length-le}
 use lib.Seq.{drop-cons, getD-take, take-all, take-length}
-use lib.Dec.{ltb, leb}
+use lib.Dec.{ltb, leb, eqb}
 use borrow.Author.Tests.{ltb-true, ltb-false, leb-true, leb-false, lt-ltb, le-ltb, le-leb, lt-leb}
 use Rattle.config.specs.Pages.{count}
 use Rattle.meta.specs.declared.ZeroExtent.{ZeroExtent}
 use Rattle.meta.specs.Runs.{run, normalized}
-use Rattle.runs.specs.Sets.{covers, add, maximal, without}
-use Rattle.runs.specs.SetLaws.{split, maximal-covers, maximal-alike, maximal-self, maximal-again, maximal-empty, without-alike}
+use Rattle.runs.specs.Sets.{within, covers, add, maximal, without}
+use Rattle.runs.specs.SetLaws.{split, within-has, maximal-covers, maximal-alike, maximal-self, maximal-again, maximal-empty, maximal-normalized, without-alike, without-covers}
 use Rattle.runs.specs.Flat.{runsIn, Out, out, held, padded, laid, at, upto}
 use Rattle.runs.specs.FlatLaws.{upto-more, upto-none, length-runsIn, held-count, held-runs, held-normalized, add-count, remove-count, laid-cleared}
 use Rattle.extents.specs.Plan.{Answer, tooMany, kept, pick, keepIf, optional, below, additions, addOne, addEach, removeEach, remain, plan}
 use Rattle.extents.specs.Outcome.{Outcome, outcome, planned}
+use Rattle.extents.specs.Steps.{norm, told, Ready, Added, Left}
 use Rattle.extents.specs.declared.Planned.{Planned}
 use Rattle.extents.specs.declared.Planned.the-variants.{Runs, TooMany}
-
--- the set by its maximal runs
-abbrev pub norm : Answer → Answer
-norm tooMany = tooMany
-norm (kept s) = kept (maximal s)
-
--- r runs in front of the numbers w, where a count above the limit says that it was passed
-unfoldable pub told : ℕ → ℕ → List ℕ → Answer
-told limit r w = pick (leb r limit) (kept (runsIn r w)) tooMany
 
 pub told-kept : (limit r : ℕ) (w : List ℕ) → r ≤ limit → told limit r w ≡ kept (runsIn r w)
 unfolding told
@@ -40,24 +32,6 @@ told-not limit r w h = rw (lt-leb r limit h)
 pub told-norm : (limit r : ℕ) (w : List ℕ) → normalized (runsIn r w) ≡ true → norm (told limit r w) ≡ told limit r w
 unfolding told
 told-norm limit r w f = split (leb r limit) (λ t. rw (t, maximal-self (runsIn r w) f)) (λ e. rw e)
-
--- the list w holds r normalized runs, at most one above the limit, and has room for one more than the limit
-pub record Ready (limit r : ℕ) (w : List ℕ) : Type 0 where
-  pub most : r ≤ limit + 1
-  pub room : limit * 2 + 2 ≤ length w
-  pub tidy : normalized (runsIn r w) ≡ true
-
--- and they are the maximal runs of the set a
-pub record Added (limit r : ℕ) (w : List ℕ) (a : Answer) : Type 0 where
-  pub most : r ≤ limit + 1
-  pub tidy : normalized (runsIn r w) ≡ true
-  pub says : told limit r w ≡ norm a
-
--- r normalized runs, at most n, which are the maximal runs of the set s
-pub record Left (n r : ℕ) (w : List ℕ) (s : List ZeroExtent) : Type 0 where
-  pub most : r ≤ n
-  pub tidy : normalized (runsIn r w) ≡ true
-  pub says : runsIn r w ≡ maximal s
 
 -- ## Additions
 
@@ -304,12 +278,6 @@ take-most v d = split (leb d (length v))
 pub tally-most : (end d : ℕ) (v : List ℕ) → length (below end (take d v)) ≤ d
 tally-most end d v = omega (arith, below-most end (take d v), length-take d v)
 
--- what the code is lent: n normalized runs, and room for one run more than the limit and one for each removal
-pub record Lent (n d : ℕ) (w : List ℕ) : Type 0 where
-  pub few : n ≤ 1024
-  pub room : (1025 + d * 2) * 2 ≤ length w
-  pub tidy : normalized (runsIn n w) ≡ true
-
 -- ## The answer and the list at the end
 
 module _ (n r : ℕ) (w : List ℕ) where
@@ -322,3 +290,85 @@ module _ (n r : ℕ) (w : List ℕ) where
   ends-runs h k =
       let e : laid n (runsIn r w) ≡ out (padded n (take (r * 2) w)) r = sym (laid-cleared n r w (runsIn r w) k refl) in
       rw (told-kept 1024 r w h) (λ i. outcome (Runs (e i .count)) (e i .work))
+
+-- ## What the plan keeps
+
+-- page p is one of the pages
+abbrev pub among : List ℕ → ℕ → Bool
+among [] p = false
+among (q ∷ qs) p = eqb p q || among qs p
+
+remove-covers : (ps : List ℕ) (s : List ZeroExtent) (p : ℕ) → covers (removeEach ps s) p ≡ (covers s p && not (among ps p))
+remove-covers [] s p = sym (and-true (covers s p))
+remove-covers (q ∷ ps) s p = remove-covers ps (without q s) p ∙ rw (without-covers q p s) (both-not (covers s p) (eqb p q) (among ps p))
+  where
+    both-not : (a b d : Bool) → ((a && not b) && not d) ≡ (a && not (b || d))
+    both-not a true d = rw (and-false a) refl
+    both-not a false d = rw (and-true a) refl
+
+kept-same : {s t : List ZeroExtent} → kept s ≡ kept t → s ≡ t
+kept-same e = cc
+
+never-kept {ℓ} : {X : Type ℓ} {s : List ZeroExtent} → tooMany ≡ kept s → X
+never-kept e = let z : _≡_ {A = ℕ} 0 1 = cc in absurd (omega arith)
+
+each-stopped : (limit : ℕ) (xs : List ZeroExtent) → addEach limit xs tooMany ≡ tooMany
+each-stopped limit [] = refl
+each-stopped limit (x ∷ xs) = rw (add-stopped limit x) (each-stopped limit xs)
+
+or-swap : (a b d : Bool) → (b || (a || d)) ≡ ((a || b) || d)
+or-swap a b d = sym (or-assoc b a d) ∙ ap (λ (x : Bool). x || d) (or-comm b a)
+
+each-covers : (limit : ℕ) (xs s t : List ZeroExtent) (p : ℕ) → addEach limit xs (kept s) ≡ kept t → covers t p ≡ (covers xs p || covers s p)
+each-covers limit [] s t p e = ap (λ (l : List ZeroExtent). covers l p) (sym (kept-same e))
+each-covers limit (x ∷ xs) s t p e =
+    split (ltb (x .start) (x .end))
+    (λ u. let a = add-present limit x s (ltb-true _ _ u) in
+    split (leb (length (maximal (x ∷ s))) limit)
+    (λ v. let g : addEach limit xs (kept (x ∷ s)) ≡ kept t = rw (a, v) at e in
+    each-covers limit xs (x ∷ s) t p g ∙ or-swap (within x p) (covers xs p) (covers s p))
+    (λ v. let g : addEach limit xs tooMany ≡ kept t = rw (a, v) at e in never-kept (sym (each-stopped limit xs) ∙ g)))
+    (λ u. let h : x .end ≤ x .start = ltb-false _ _ u in
+    let g : addEach limit xs (kept s) ≡ kept t = rw (add-absent limit x s h) at e in
+    let f : within x p ≡ false = split (within x p) (λ v. absurd (omega (arith, within-has x p v))) (λ v. v) in
+    rw f (each-covers limit xs s t p g))
+
+-- the set before the removals, where some is kept
+Before : ℕ → List ℕ → Answer → List ZeroExtent → Type 0
+Before top ps a l = (s : List ZeroExtent) × (a ≡ kept s) × (l ≡ maximal (removeEach ps s)) × (length l ≤ top)
+
+before : (top : ℕ) (ps : List ℕ) (a : Answer) (l : List ZeroExtent) → remain top ps a ≡ kept l → Before top ps a l
+unfolding remain Before
+before top ps tooMany l e = never-kept e
+before top ps (kept s) l e =
+    let left = maximal (removeEach ps s) in
+    split (leb (length left) top)
+    (λ t. let h : length left ≤ top = leb-true (length left) top t in
+    let g : left ≡ l = kept-same (rw t at e) in
+    (s, refl, sym g, rw (← g) h))
+    (λ f. never-kept (rw f at e))
+
+module _ (P top old new : ℕ) (image recorded : List ZeroExtent) (dirty : List ℕ) (l : List ZeroExtent) (e : plan P top old new image recorded dirty ≡ kept l) where
+  kept-before : Before top (below (count P new) dirty) (addEach (top + length (below (count P new) dirty)) (additions P old new recorded) (kept image)) l
+  unfolding plan
+  kept-before = before top (below (count P new) dirty) _ l e
+
+  -- an accepted commit leaves normalized runs, at most 1,024
+  pub plan-normalized : normalized l ≡ true
+  unfolding Before
+  plan-normalized = rw (kept-before .2) (maximal-normalized (removeEach (below (count P new) dirty) (kept-before .0)))
+
+  pub plan-most : length l ≤ top
+  unfolding Before
+  plan-most = kept-before .3
+
+  -- they cover what the image's runs or an addition covers, but no dirty page below the final count
+  pub plan-covers : (p : ℕ) → covers l p ≡ ((covers (additions P old new recorded) p || covers image p) && not (among (below (count P new) dirty) p))
+  unfolding Before
+  plan-covers p =
+      let ps = below (count P new) dirty in
+      let s = kept-before .0 in
+      ap (λ (k : List ZeroExtent). covers k p) (kept-before .2)
+      ∙ maximal-covers (removeEach ps s) p
+      ∙ remove-covers ps s p
+      ∙ ap (λ (b : Bool). b && not (among ps p)) (each-covers _ (additions P old new recorded) image s p (kept-before .1))

@@ -9,8 +9,8 @@ ghost use Rattle.runs.specs.Sets.{maximal};
 ghost use Rattle.runs.specs.Flat.{runsIn};
 ghost use Rattle.runs.specs.Image.{imageRuns};
 ghost use Rattle.extents.specs.Plan.{below, additions, addOne, addEach, removeEach, plan as planOf};
-ghost use Rattle.extents.specs.Outcome.{outcome, planned};
-ghost use Rattle.extents.specs.PlanLaws.{told, Ready, Added, Left, Lent};
+ghost use Rattle.extents.specs.Outcome.{outcome, planned, Lent};
+ghost use Rattle.extents.specs.Steps.{told, Ready, Added, Left};
 
 pub const MAX_ZERO_EXTENTS: usize = 1_024;
 

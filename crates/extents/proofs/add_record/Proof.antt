@@ -7,7 +7,8 @@ use Rattle.meta.specs.Runs.{normalized}
 use Rattle.runs.specs.Flat.{runsIn, upto}
 use Rattle.runs.specs.FlatLaws.{upto-most}
 use Rattle.extents.specs.Plan.{addEach}
-use Rattle.extents.specs.PlanLaws.{norm, told, told-norm, record-step, record-last}
+use Rattle.extents.specs.Steps.{norm, told}
+use Rattle.extents.specs.PlanLaws.{told-norm, record-step, record-last}
 use borrow.Author.Needs.{needs}
 use Rattle.extents.proofs.add_record.Statement.{statement}
 use Rattle.extents.proofs.add_record.Tie as tie
