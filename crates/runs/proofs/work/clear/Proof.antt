@@ -1,0 +1,58 @@
+use Prim.Native.Nat.{_+_, _-_, _≤_, _<_}
+use mathlib.Core.Path.{_≡_}
+use native.Mathlib.Omega.{arith}
+use lib.ListN.{length, take}
+use Rattle.runs.specs.Flat.{padded}
+use Rattle.runs.specs.FlatLaws.{clear-step, clear-last}
+use borrow.Author.Needs.{needs}
+use Rattle.runs.proofs.work.clear.Statement.{statement}
+use Rattle.runs.proofs.work.clear.Tie as tie
+
+abbrev Inv-loop : tie.InvT-loop
+Inv-loop work₀ from k₀ work k = (length work ≡ length work₀) × (padded (length work₀) (take k work) ≡ padded (length work₀) (take from work₀))
+
+abbrev μ-loop : tie.MeasureT-loop
+μ-loop work₀ from k₀ work k = length work₀ - k
+
+loop-holds : tie.Need-loop-holds Inv-loop μ-loop
+loop-holds c = search needs
+
+mul-work : tie.Need-mul-work Inv-loop μ-loop
+mul-work c = search needs
+
+slice-write-work : tie.Need-slice-write-work Inv-loop μ-loop
+slice-write-work c = search needs
+
+add-k : tie.Need-add-k Inv-loop μ-loop
+add-k c = search needs
+
+loop-less : tie.Need-loop-less Inv-loop μ-loop
+loop-less c = search needs
+
+loop-again : tie.Need-loop-again Inv-loop μ-loop
+loop-again c =
+    let l = c .before in
+    (search needs, cc (clear-step (length (l .before .args .work .now)) (l .loop .k) (l .loop .work) (search needs) (omega arith)))
+
+same-length : tie.Need-same-length Inv-loop μ-loop
+same-length c = search needs
+
+returns : tie.Need-returns Inv-loop μ-loop
+returns c =
+    let l = c .before in
+    cc (clear-last (length (l .before .args .work .now)) (l .loop .k) (l .loop .work) (search needs) (omega arith))
+
+pub clear-spec : {M : Type 1} → statement M
+clear-spec =
+    tie.close
+    (tie.spec
+    Inv-loop
+    μ-loop
+    loop-holds
+    mul-work
+    slice-write-work
+    add-k
+    loop-less
+    loop-again
+    same-length
+    returns)

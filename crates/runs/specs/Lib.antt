@@ -1,0 +1,6 @@
+pub mod Sets
+pub mod Members
+pub mod SetLaws
+pub mod Flat
+pub mod FlatLaws
+pub mod Image
