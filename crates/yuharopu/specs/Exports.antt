@@ -1,6 +1,6 @@
 -- What the C functions answer, and what the lent slices hold at the end.
 use mathlib.Core.Path.{_≡_, sym, ap}
-use Prim.Native.Nat.{ℕ, _*_, _≤_}
+use Prim.Native.Nat.{ℕ, _+_, _*_, _/_, _≤_}
 use mathlib.Core.Bool.{Bool, true, false}
 use mathlib.Core.List.{List, [], _∷_}
 use lib.Dec.{ltb}
@@ -15,6 +15,11 @@ use Rattle.meta.specs.declared.opening.Loaded.{Loaded}
 use Rattle.meta.specs.declared.opening.Loaded.the-variants.{Block, Refused}
 use Rattle.meta.specs.Block.{numbersOf, ofNumbers, fresh, storeIn}
 use Rattle.meta.specs.Load.{load}
+use Rattle.runs.specs.Flat.{runsIn}
+use Rattle.extents.specs.declared.Planned.{Planned}
+use Rattle.extents.specs.declared.Planned.the-variants.{Runs, TooMany}
+use Rattle.extents.specs.Plan.{plan}
+use Rattle.extents.specs.Outcome.{Outcome as Outcome′, outcome as outcome′, planned as laid}
 
 -- the number of the answer, and a list
 pub record Answer : Type 0 where
@@ -78,6 +83,36 @@ growPages mem count end pages =
     pickGrew (ltb (length pages) 2) (grew 35 mem pages)
     (growthShown count (growTo 65536 count end mem .mem) (growTo 65536 count end mem .growth) pages)
 
+-- ## The plan of a commit
+
+pub record Plans : Type 0 where
+  pub number : ℕ
+  pub work : List ℕ
+  pub list : List ℕ
+
+abbrev pub plans : ℕ → List ℕ → List ℕ → Plans
+plans n w l = record { number = n; work = w; list = l }
+
+abbrev pub pickPlans : Bool → Plans → Plans → Plans
+pickPlans true a b = a
+pickPlans false a b = b
+
+abbrev pub planShown : List ℕ → Planned → List ℕ → Plans
+planShown work (Runs n) list = plans 0 work (overwrite 0 (n ∷ []) list)
+planShown work TooMany list = plans 31 work list
+
+-- whole runs count; the rest of an odd list is no run
+unfoldable pub planned : List ℕ → List ℕ → ℕ → ℕ → List ℕ → List ℕ → Outcome′
+planned work extents old new recorded dirty =
+    laid (length work) (plan 16384 1024 old new (runsIn (length extents / 2) extents) (runsIn (length recorded / 2) recorded) (take (length dirty) dirty))
+
+unfoldable pub planRuns : List ℕ → List ℕ → ℕ → ℕ → List ℕ → List ℕ → List ℕ → Plans
+planRuns work extents old new recorded dirty list =
+    pickPlans (ltb (length list) 1) (plans 35 work list)
+    (pickPlans (ltb 1024 (length extents / 2)) (plans 35 work list)
+    (pickPlans (ltb (length work) ((1025 + length dirty * 2) * 2)) (plans 35 work list)
+    (planShown (planned work extents old new recorded dirty .work) (planned work extents old new recorded dirty .answer) list)))
+
 -- ## Laws
 
 pub load-shown : (block fields : List ℕ) (x : Loaded) → 16544 ≤ length block → 21 ≤ length fields → x ≡ load block → shown x fields ≡ loadFields block fields
@@ -88,3 +123,10 @@ pub grow-shown : (mem : List ℕ) (count end : ℕ) (pages : List ℕ) (o : Outc
     → growthShown count (o .mem) (o .growth) pages ≡ growPages mem count end pages
 unfolding growPages
 grow-shown mem count end pages o a e = sym (rw (le-ltb (length pages) 2 a) (ap (λ (y : Outcome). growthShown count (y .mem) (y .growth) pages) (sym e)))
+
+pub plan-shown : (work extents : List ℕ) (old new : ℕ) (recorded dirty list : List ℕ) (o : Outcome′) → 1 ≤ length list → length extents / 2 ≤ 1024 → (1025 + length dirty * 2) * 2 ≤ length work
+    → o ≡ planned work extents old new recorded dirty → planShown (o .work) (o .answer) list ≡ planRuns work extents old new recorded dirty list
+unfolding planRuns
+plan-shown work extents old new recorded dirty list o a b c e =
+    sym (rw (le-ltb (length list) 1 a, le-ltb 1024 (length extents / 2) b, le-ltb (length work) ((1025 + length dirty * 2) * 2) c)
+    (ap (λ (y : Outcome′). planShown (y .work) (y .answer) list) (sym e)))

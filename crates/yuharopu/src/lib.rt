@@ -2,8 +2,9 @@
 ghost use mathlib.Core.Path.{_≡_};
 ghost use Rattle.config.specs.Pages.{count};
 ghost use Rattle.meta.specs.Fnv.{fold, fnv1a64};
-ghost use Rattle.yuharopu.specs.Exports.{answer, grew, loadFields, freshFields, storeFields, growPages};
+ghost use Rattle.yuharopu.specs.Exports.{answer, grew, plans, loadFields, freshFields, storeFields, growPages, planRuns};
 use config::StablePages;
+use extents::Planned;
 use memory::Growth;
 use meta::Loaded;
 use meta::Superblock;
@@ -113,4 +114,47 @@ pub extern "C" fn yuharopu_superblock_store(mem: &mut [u8], fields: &[u64], runs
     let block = Superblock::of_numbers(fields);
     block.store(&runs[..numbers], mem);
     0
+}
+
+#[no_mangle]
+pub extern "C" fn yuharopu_plan(
+    work: &mut [u64],
+    extents: &[u64],
+    old_size: u64,
+    new_size: u64,
+    record: &[u64],
+    dirty: &[u64],
+    answer: &mut [u64],
+) -> u64
+    ensures { λ r. ⌜ plans r (now (work .exit)) (now (answer .exit)) ≡ planRuns (now (work .entry)) (now (extents .entry)) «old_size» «new_size» (now («record» .entry)) (now (dirty .entry)) (now (answer .entry)) ⌝ }
+{
+    if answer.len() < 1 {
+        return BUFFER_TOO_SHORT;
+    }
+    let image = extents.len() / 2;
+    if 1_024 < image {
+        return BUFFER_TOO_SHORT;
+    }
+    let pages = dirty.len();
+    let entries = record.len() / 2;
+    if work.len() < (1_025 + pages * 2) * 2 {
+        return BUFFER_TOO_SHORT;
+    }
+    match extents::plan_numbers(
+        work,
+        extents,
+        image,
+        old_size,
+        new_size,
+        record,
+        entries,
+        dirty,
+        pages,
+    ) {
+        Planned::Runs(count) => {
+            answer[0] = count as u64;
+            0
+        }
+        Planned::TooMany => ZERO_EXTENT_LIMIT_EXCEEDED,
+    }
 }
