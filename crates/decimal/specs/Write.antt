@@ -4,8 +4,8 @@ use mathlib.Core.List.{List, [], _∷_, _++_}
 use Prim.Native.Nat.{ℕ, suc, _+_, _/_, _%_, _≤_, _<_}
 use native.Mathlib.Numerals.{add-one}
 use native.Mathlib.Omega.{arith}
-use lib.ListN.{length, drop, getD, set, length-append, drop-of-length-le}
-use lib.Seq.{sets, length-sets, drop-cons}
+use lib.ListN.{length, take, drop, getD, set, length-append, drop-of-length-le}
+use lib.Seq.{sets, sets-eq, length-sets, drop-cons}
 use Rattle.decimal.specs.Decimal.{decimal, decimal-one, decimal-more}
 
 pub record Written : Type 0 where
@@ -72,3 +72,20 @@ number-more at n out h k = rw (decimal-more n h k) (write-join at (decimal (n / 
 -- one digit less
 pub digits-less : (n : ℕ) → 10 ≤ n → n < 18446744073709551616 → length (decimal n) ≡ length (decimal (n / 10)) + 1
 digits-less n h k = ap length (decimal-more n h k) ∙ length-append (decimal (n / 10)) ((48 + n % 10) ∷ [])
+
+-- ## One call behind another
+
+module _ (at : ℕ) (word out : List ℕ) (n : ℕ) (o : List ℕ) (e : written n o ≡ write at word out) where
+  pub next-is : n ≡ at + length word
+  next-is = ap (λ (w : Written). w .next) e ∙ next-write at word out
+
+  pub bytes-stay : length o ≡ length out
+  bytes-stay = ap (λ (w : Written). length (w .bytes)) e ∙ length-write at word out
+
+  pub write-then : (m : ℕ) (p more : List ℕ) → written m p ≡ write n more o → written m p ≡ write at (word ++ more) out
+  write-then m p more f = f ∙ ap (λ (w : Written). write (w .next) more (w .bytes)) e ∙ write-join at word more out
+
+-- what lies before the word and behind it stays
+pub write-is : (at : ℕ) (word out : List ℕ) → at + length word ≤ length out → write at word out .bytes ≡ take at out ++ word ++ drop (at + length word) out
+unfolding write
+write-is at word out h = sets-eq word out at h

@@ -7,3 +7,4 @@ pub mod Tests
 pub mod Turns
 pub mod Tested
 pub mod Whole
+pub mod Print

@@ -18,7 +18,7 @@ drop-one : (l : List ℕ) (i : ℕ) → i < length l → drop i l ≡ getD l i 0
 drop-one l i h = rw (add-one, drop-cons l i 0)
 
 -- the two numbers up to place i
-drop-two : (l : List ℕ) (i : ℕ) → 1 ≤ i → i < length l → drop (i - 1) l ≡ getD l (i - 1) 0 ∷ getD l i 0 ∷ drop (i + 1) l
+pub drop-two : (l : List ℕ) (i : ℕ) → 1 ≤ i → i < length l → drop (i - 1) l ≡ getD l (i - 1) 0 ∷ getD l i 0 ∷ drop (i + 1) l
 drop-two l i h k =
     let e : i - 1 + 1 ≡ i = omega arith in
     drop-one l (i - 1) (omega arith) ∙ ap (λ (j : ℕ). getD l (i - 1) 0 ∷ drop j l) e ∙ ap (λ (x : List ℕ). getD l (i - 1) 0 ∷ x) (drop-one l i k)

@@ -1,5 +1,6 @@
 // The text of the program zeroplan: what it reads, and what it writes.
 mod line;
+mod report;
 mod section;
 mod tests;
 
@@ -9,6 +10,7 @@ use crate::section::read_dirty;
 use crate::section::read_extents;
 use crate::section::read_records;
 use decimal::Numeral;
+pub use report::print;
 ghost use mathlib.Core.Path.{_≡_};
 ghost use mathlib.Core.List.{[]};
 ghost use Prim.Native.Nat.{_≤_};
