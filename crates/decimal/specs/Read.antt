@@ -1,15 +1,15 @@
 -- Laws of the readers: what they accept is spelled so, and what is spelled so they accept.
 use mathlib.Core.Path.{_≡_, refl, sym, ap, _∙_}
-use mathlib.Core.Bool.{Bool, true, false, cond, _&&_, and-eq-true-iff, true≢false}
+use mathlib.Core.Bool.{Bool, true, false, cond, and-eq-true-iff, true≢false}
 use mathlib.Core.List.{List, [], _∷_, _++_, append-assoc}
 use Prim.Native.Nat.{ℕ, zero, suc, _+_, _-_, _*_, _/_, _%_, _≤_, _<_}
 use native.Mathlib.Numerals.{add-one}
 use native.Mathlib.Omega.{arith}
-use lib.ListN.{length, take, drop, getD, length-append, length-drop, List·getD-append, drop-of-length-le}
+use lib.ListN.{length, drop, getD, length-append, List·getD-append, drop-of-length-le}
 use lib.Seq.{drop-cons, drop-drop, drop-append-seam}
 use lib.Dec.{ltb, leb, eqb}
-use borrow.Author.Tests.{ltb-true, ltb-false, leb-true, leb-false, eqb-true, eqb-false, lt-ltb, le-ltb, le-leb, lt-leb, eq-eqb, ne-eqb}
-use Rattle.decimal.specs.Decimal.{spellIn, decimal, ten, split, decimal-one, decimal-more}
+use borrow.Author.Tests.{ltb-true, ltb-false, leb-true, eqb-true, eqb-false, lt-ltb, le-ltb, le-leb, lt-leb, eq-eqb, ne-eqb}
+use Rattle.decimal.specs.Decimal.{decimal, ten, split, decimal-one, decimal-more}
 use Rattle.decimal.specs.Text.{Got, got, wrong, then, from, isAt, skip, isDigit, digits, number}
 
 -- ## One reader behind another

@@ -1,5 +1,5 @@
 -- What the code's answers say, and what the lent buffers hold: the numbers that were read from the first place on, and behind them what was there.
-use mathlib.Core.Bool.{Bool, true, false, _&&_}
+use mathlib.Core.Bool.{Bool, true, _&&_}
 use mathlib.Core.List.{List, [], _∷_}
 use Prim.Native.Nat.{ℕ, _+_, _*_}
 use lib.ListN.{length}

@@ -1,5 +1,5 @@
 -- The text that zeroplan reads, and the text that it writes.
-use mathlib.Core.Path.{_≡_, refl}
+use mathlib.Core.Path.{_≡_}
 use mathlib.Core.Bool.{Bool, true, false, _&&_, _||_, not}
 use mathlib.Core.List.{List, [], _∷_, _++_}
 use mathlib.Core.Logic.{_⊎_}
@@ -9,7 +9,7 @@ use Prim.Native.String.{String}
 use lib.ListN.{length}
 use lib.Dec.{ltb, eqb}
 use Rattle.meta.specs.declared.ZeroExtent.{ZeroExtent}
-use Rattle.meta.specs.Runs.{run, normalized}
+use Rattle.meta.specs.Runs.{normalized}
 use Rattle.decimal.specs.Decimal.{decimal}
 use Rattle.plan_text.specs.declared.Answer.{Answer}
 

@@ -1,18 +1,17 @@
 -- Laws of the readers of lines: what they accept is spelled so, and what is spelled so they accept.
 use mathlib.Core.Path.{_≡_, refl, sym, ap, subst, _∙_}
-use mathlib.Core.Bool.{Bool, true, false, cond}
 use mathlib.Core.List.{List, [], _∷_, _++_, append-assoc}
 use mathlib.Core.Logic.{_⊎_, inl, inr, ⊎-elim}
-use Prim.Native.Nat.{ℕ, zero, suc, _+_, _≤_, _<_}
+use Prim.Native.Nat.{ℕ, zero, suc, _≤_}
 use native.Mathlib.Omega.{arith}
-use lib.ListN.{length, getD}
+use lib.ListN.{length}
 use Rattle.meta.specs.declared.ZeroExtent.{ZeroExtent}
 use Rattle.meta.specs.Runs.{run}
 use Rattle.decimal.specs.Decimal.{decimal}
-use Rattle.decimal.specs.Text.{Got, got, wrong, then, skip, isDigit, number}
-use Rattle.decimal.specs.Read.{never, then-means, digit-low, skip-spelled, skip-means, number-means, number-spelled}
+use Rattle.decimal.specs.Text.{Got, got, wrong, then, skip, number}
+use Rattle.decimal.specs.Read.{then-means, digit-low, skip-spelled, skip-means, number-means, number-spelled}
 use Rattle.plan_text.specs.Grammar.{ascii, numberValue, runValue, lines, Fits, RunFits, All}
-use Rattle.plan_text.specs.Parse.{readNumber, readRun, readField, Section, ended, broken, more, keyed, valued, section, tested}
+use Rattle.plan_text.specs.Parse.{readNumber, readRun, readField, Section, ended, broken, more, keyed, valued, section}
 
 -- ## A line
 

@@ -8,3 +8,4 @@ pub mod Turns
 pub mod Tested
 pub mod Whole
 pub mod Print
+pub mod Examples

@@ -3,7 +3,7 @@ use mathlib.Core.Path.{_≡_, refl, sym, ap, subst, _∙_}
 use mathlib.Core.Bool.{Bool, true, false, cond}
 use mathlib.Core.List.{List, [], _∷_, _++_, append-assoc, append-nil}
 use mathlib.Core.Logic.{_⊎_, inl, inr, ⊎-elim}
-use Prim.Native.Nat.{ℕ, zero, suc, _+_, _≤_, _<_}
+use Prim.Native.Nat.{ℕ, _≤_}
 use native.Mathlib.Omega.{arith}
 use lib.ListN.{length, getD, take, length-append}
 use lib.Seq.{take-at}
@@ -11,10 +11,10 @@ use lib.Dec.{leb}
 use borrow.Author.Tests.{leb-true, le-leb}
 use Rattle.meta.specs.declared.ZeroExtent.{ZeroExtent}
 use Rattle.meta.specs.Runs.{normalized}
-use Rattle.decimal.specs.Text.{Got, got, wrong, from, skip}
+use Rattle.decimal.specs.Text.{Got, got, wrong, from}
 use Rattle.decimal.specs.Read.{skip-other}
 use Rattle.plan_text.specs.declared.Parsed.{Parsed}
-use Rattle.plan_text.specs.Grammar.{ascii, Input, numberValue, runValue, lines, spell, Fits, RunFits, All, nonEmpty, distinct, Valid, WellFormed}
+use Rattle.plan_text.specs.Grammar.{ascii, Input, numberValue, runValue, lines, spell, Fits, RunFits, nonEmpty, distinct, Valid, WellFormed}
 use Rattle.plan_text.specs.Parse.{readNumber, readRun, readField, Section, ended, broken, section, tested, Reading, refused, accepted, onSection, onNumber, parseEnd, parseDirty, parseRecords, parseExtents, parseSizes, parse}
 use Rattle.plan_text.specs.Laws.{never-ended, number-line-means, number-line-spelled, run-line-means, run-line-spelled, field-means, field-spelled, section-means, section-spelled}
 

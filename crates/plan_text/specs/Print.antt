@@ -1,18 +1,17 @@
 -- The text of an answer in a buffer.
-use mathlib.Core.Path.{_≡_, refl, sym, ap, _∙_}
-use mathlib.Core.Bool.{Bool, true, false, cond}
-use mathlib.Core.List.{List, [], _∷_, _++_, append-assoc, append-nil}
-use Prim.Native.Nat.{ℕ, zero, suc, _+_, _-_, _*_, _/_, _≤_, _<_}
-use native.Mathlib.Numerals.{add-one}
+use mathlib.Core.Path.{_≡_, refl, ap, _∙_}
+use mathlib.Core.Bool.{cond}
+use mathlib.Core.List.{List, [], _∷_, _++_, append-assoc}
+use Prim.Native.Nat.{ℕ, _+_, _-_, _*_, _/_, _≤_, _<_}
 use native.Mathlib.Omega.{arith}
-use lib.ListN.{length, take, drop, getD, length-append, length-drop, drop-of-length-le}
-use lib.Seq.{drop-cons, take-at, drop-at}
+use lib.ListN.{length, take, drop, getD, length-append, length-drop}
+use lib.Seq.{take-at, drop-at}
 use lib.Dec.{leb}
 use borrow.Author.Tests.{le-leb, lt-leb}
 use Rattle.meta.specs.declared.ZeroExtent.{ZeroExtent}
 use Rattle.meta.specs.Runs.{run, runsOf}
 use Rattle.decimal.specs.Decimal.{decimal, decimal-length}
-use Rattle.decimal.specs.Write.{Written, written, write, write-is, next-write, next-is, bytes-stay, write-then, write-none}
+use Rattle.decimal.specs.Write.{Written, written, write, write-is, next-write, write-then, write-none}
 use Rattle.plan_text.specs.declared.Answer.{Answer}
 use Rattle.plan_text.specs.Grammar.{ascii, numberValue, runValue, lines, report}
 use Rattle.plan_text.specs.Tests.{drop-two}

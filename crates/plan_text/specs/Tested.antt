@@ -1,14 +1,14 @@
 -- Lines that were read, and the test of all of them on the buffer's first numbers.
 use mathlib.Core.Path.{_≡_, refl, sym, ap, subst, _∙_}
-use mathlib.Core.Bool.{Bool, true, false, cond}
-use mathlib.Core.List.{List, [], _∷_, _++_}
-use Prim.Native.Nat.{ℕ, zero, suc, _+_, _-_, _*_, _/_, _≤_, _<_}
+use mathlib.Core.Bool.{Bool, true, false}
+use mathlib.Core.List.{List}
+use Prim.Native.Nat.{ℕ, _+_, _*_, _/_, _≤_}
 use native.Mathlib.Omega.{arith}
 use lib.ListN.{length, take, drop}
-use lib.Seq.{sets, sets-eq, length-sets, take-at}
+use lib.Seq.{sets, sets-eq, take-at}
 use Rattle.meta.specs.declared.ZeroExtent.{ZeroExtent}
 use Rattle.meta.specs.Runs.{runsOf, numbersOf, normalized}
-use Rattle.plan_text.specs.Grammar.{numberValue, runValue, Fits, RunFits, nonEmpty, distinct}
+use Rattle.plan_text.specs.Grammar.{numberValue, runValue, Fits, RunFits, nonEmpty}
 use Rattle.plan_text.specs.Parse.{readNumber, readRun, Section, ended, broken, section, tested}
 use Rattle.plan_text.specs.Laws.{section-means, number-line-means, run-line-means}
 use Rattle.plan_text.specs.Fill.{Filled, filled, torn, fillRuns, fillPages, ascending}

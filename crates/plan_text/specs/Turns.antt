@@ -1,18 +1,17 @@
 -- The turns of the loops that read lines: the meaning of what is left, from the buffer as it is now, stays the meaning at the start.
-use mathlib.Core.Path.{_≡_, refl, sym, ap, _∙_}
-use mathlib.Core.Bool.{Bool, true, false, cond}
-use mathlib.Core.List.{List, [], _∷_, _++_}
-use Prim.Native.Nat.{ℕ, zero, suc, _+_, _-_, _*_, _≤_, _<_}
+use mathlib.Core.Path.{_≡_, sym}
+use mathlib.Core.List.{List, []}
+use Prim.Native.Nat.{ℕ, zero, suc, _+_, _-_, _*_}
 use native.Mathlib.Numerals.{add-one}
 use native.Mathlib.Omega.{arith}
-use lib.ListN.{length, take, drop, set}
-use lib.Seq.{sets, sets-eq, take-at}
+use lib.ListN.{length, set}
+use lib.Seq.{sets}
 use Rattle.meta.specs.declared.ZeroExtent.{ZeroExtent}
-use Rattle.meta.specs.Runs.{run, runsOf, numbersOf}
+use Rattle.meta.specs.Runs.{run, numbersOf}
 use Rattle.decimal.specs.Text.{Got, got, wrong, skip}
-use Rattle.plan_text.specs.Parse.{readNumber, readRun, Section, ended, broken, more, section, tested}
+use Rattle.plan_text.specs.Parse.{readNumber, readRun, Section, ended, broken, more, section}
 use Rattle.plan_text.specs.Laws.{section-none}
-use Rattle.plan_text.specs.Fill.{Filled, filled, torn, fillRuns, fillPages}
+use Rattle.plan_text.specs.Fill.{filled, torn, fillRuns, fillPages}
 
 -- ## A line more
 

@@ -1,20 +1,17 @@
 -- The parser's returns: what each part answered, put together, is what the definition says of the whole text.
-use mathlib.Core.Path.{_≡_, refl, sym, ap, _∙_}
-use mathlib.Core.Bool.{Bool, true, false, cond}
+use mathlib.Core.Path.{_≡_, ap}
 use mathlib.Core.List.{List, [], _∷_, _++_}
-use Prim.Native.Nat.{ℕ, _+_, _-_, _/_, _≤_, _<_}
+use Prim.Native.Nat.{ℕ, _/_, _≤_, _<_}
 use native.Mathlib.Omega.{arith}
 use lib.ListN.{length, length-append, length-drop}
-use lib.Seq.{sets}
-use lib.Dec.{leb}
 use borrow.Author.Tests.{le-leb, lt-leb}
 use Rattle.meta.specs.declared.ZeroExtent.{ZeroExtent}
-use Rattle.meta.specs.Runs.{numbersOf, normalized}
-use Rattle.decimal.specs.Text.{Got, got, wrong, from}
+use Rattle.meta.specs.Runs.{normalized}
+use Rattle.decimal.specs.Text.{got, wrong, from}
 use Rattle.plan_text.specs.declared.Parsed.{Parsed}
 use Rattle.plan_text.specs.Grammar.{ascii, Input, nonEmpty, distinct}
-use Rattle.plan_text.specs.Parse.{readNumber, readRun, readField, Section, ended, broken, section, tested, Reading, refused, accepted, parseEnd, parseDirty, parseRecords, parseExtents, parseSizes, parse}
-use Rattle.plan_text.specs.Fill.{Filled, filled, torn, fillRuns, fillPages, Outcome, outcome, filledBy}
+use Rattle.plan_text.specs.Parse.{readNumber, readRun, readField, Section, ended, broken, section, tested, refused, accepted, parseEnd, parseDirty, parseRecords, parseExtents, parseSizes, parse}
+use Rattle.plan_text.specs.Fill.{filled, torn, fillRuns, fillPages, outcome, filledBy}
 use Rattle.plan_text.specs.Tested.{runs, pages, ended-means, broken-means}
 
 abbrev pub extentsIn : List ℕ → Section ZeroExtent

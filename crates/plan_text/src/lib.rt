@@ -40,7 +40,12 @@ ghost use Rattle.plan_text.specs.Parse.{parseExtents};
 ghost use Rattle.plan_text.specs.Parse.{parse as parseText};
 ghost use Rattle.plan_text.specs.Fill.{outcome, filledBy};
 
-const MOST_BYTES: usize = 65_536;
+pub const MOST_BYTES: usize = 65_536;
+
+// Of each kind at most 1,024 lines; a run is two numbers.
+pub const MOST_PAGES: usize = 1_024;
+
+pub const MOST_RUN_NUMBERS: usize = 2_048;
 
 // What follows the two sizes.
 fn parse_lists(
@@ -48,46 +53,34 @@ fn parse_lists(
     at: usize,
     old: u64,
     new: u64,
-    extents: &mut [u64; 2048],
-    recorded: &mut [u64; 2048],
-    dirty: &mut [u64; 1024],
+    extents: &mut [u64; MOST_RUN_NUMBERS],
+    recorded: &mut [u64; MOST_RUN_NUMBERS],
+    dirty: &mut [u64; MOST_PAGES],
 ) -> Parsed
     requires { ⌜ length (now text) ≤ 65536 ⌝ }
     ensures { λ r. ⌜ outcome r (now (extents .exit)) (now (recorded .exit)) (now (dirty .exit)) ≡ filledBy (parseExtents old new (from (now (text .entry)) at)) (now (extents .entry)) (now (recorded .entry)) (now (dirty .entry)) ⌝ }
 {
     let first = read_extents(text, at, extents);
-    let Lines::Ended {
-        count: extent_count,
-        next: records_at,
-    } = first
-    else {
+    let Lines::Ended { count: e, next } = first else {
         return Parsed::Malformed;
     };
-    let second = read_records(text, records_at, recorded);
-    let Lines::Ended {
-        count: record_count,
-        next: dirty_at,
-    } = second
-    else {
+    let second = read_records(text, next, recorded);
+    let Lines::Ended { count: r, next } = second else {
         return Parsed::Malformed;
     };
-    let third = read_dirty(text, dirty_at, dirty);
-    let Lines::Ended {
-        count: dirty_count,
-        next: end,
-    } = third
-    else {
+    let third = read_dirty(text, next, dirty);
+    let Lines::Ended { count: d, next } = third else {
         return Parsed::Malformed;
     };
-    if end < text.len() {
+    if next < text.len() {
         return Parsed::Malformed;
     }
     Parsed::Accepted {
         old_size: old,
         new_size: new,
-        extents: extent_count,
-        recorded: record_count,
-        dirty: dirty_count,
+        extents: e,
+        recorded: r,
+        dirty: d,
     }
 }
 
@@ -95,9 +88,9 @@ fn parse_lists(
 // start, then end; the rest of each buffer stays as it was.
 pub fn parse(
     text: &[u8],
-    extents: &mut [u64; 2048],
-    recorded: &mut [u64; 2048],
-    dirty: &mut [u64; 1024],
+    extents: &mut [u64; MOST_RUN_NUMBERS],
+    recorded: &mut [u64; MOST_RUN_NUMBERS],
+    dirty: &mut [u64; MOST_PAGES],
 ) -> Parsed
     ensures { λ r. ⌜ outcome r (now (extents .exit)) (now (recorded .exit)) (now (dirty .exit)) ≡ filledBy (parseText (now (text .entry))) (now (extents .entry)) (now (recorded .entry)) (now (dirty .entry)) ⌝ }
 {
@@ -109,12 +102,8 @@ pub fn parse(
         return Parsed::Malformed;
     };
     let second = read_field(text, next, b"new_size=");
-    let Numeral::Read {
-        value: new,
-        next: at,
-    } = second
-    else {
+    let Numeral::Read { value: new, next } = second else {
         return Parsed::Malformed;
     };
-    parse_lists(text, at, old, new, extents, recorded, dirty)
+    parse_lists(text, next, old, new, extents, recorded, dirty)
 }

@@ -1,6 +1,6 @@
 // Tests of the numbers that were read. Runs are two numbers each: start, then end.
 ghost use mathlib.Core.Path.{_≡_};
-ghost use Rattle.meta.specs.Runs.{runsOf, normalized};
+ghost use Rattle.meta.specs.Runs.{runsOf};
 ghost use Rattle.plan_text.specs.Grammar.{nonEmpty, member, distinct};
 ghost use Rattle.plan_text.specs.Fill.{ascending};
 
@@ -23,7 +23,9 @@ pub fn none_is_empty(numbers: &[u64]) -> bool
 {
     let mut i: usize = 1;
     while i < numbers.len() {
-        if numbers[i] <= numbers[i - 1] {
+        let start = numbers[i - 1];
+        let end = numbers[i];
+        if end <= start {
             return false;
         }
         i += 2;

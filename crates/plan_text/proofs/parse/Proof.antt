@@ -1,36 +1,26 @@
-use mathlib.Core.Path.{_≡_, refl, sym, ap, _∙_}
-use native.Mathlib.Omega.{arith}
+-- `plan_text::parse` meets its contract: the two sizes, then the lists.
+use mathlib.Core.Path.{sym, ap, _∙_}
 use Rattle.decimal.specs.Places.{numeralIn}
 use Rattle.plan_text.specs.Whole.{text-long, no-old, no-new, sizes-read}
 use borrow.Author.Needs.{needs}
 use Rattle.plan_text.proofs.parse.Statement.{statement}
 use Rattle.plan_text.proofs.parse.Tie as tie
-use Rattle.plan_text.proofs.parse.Reads as reads
-use Rattle.plan_text.proofs.parse.Lts as lts
-use Rattle.plan_text.proofs.line.read_field.Reads as read-field-reads
-use Rattle.plan_text.proofs.parse_lists.Reads as parse-lists-reads
 
--- src/lib.rt:92:9
 returns : tie.Need-returns
 returns c = text-long _ _ _ _ (c .if1 .taken)
 
--- src/lib.rt:94:37
 slice-aggregate-read-field : tie.Need-slice-aggregate-read-field
 slice-aggregate-read-field c = search needs
 
--- src/lib.rt:94:9
 read-field-requires : tie.Need-read-field-requires
 read-field-requires c κs = search needs
 
--- src/lib.rt:95:32
 enum-known-first : tie.Need-enum-known-first
 enum-known-first c = search needs
 
--- src/lib.rt:96:9
 enum-told : tie.Need-enum-told
 enum-told c = search needs
 
--- src/lib.rt:96:9
 returns-2 : tie.Need-returns-2
 returns-2 c =
     let x = c .before .before in
@@ -38,23 +28,18 @@ returns-2 c =
     let e = sym (x .read-field .ensures) ∙ ap (numeralIn (a .text .now)) (c .enum-told .given .1) in
     no-old (a .text .now) (a .extents .now) (a .recorded .now) (a .dirty .now) (x .before .before .if1 .left) e
 
--- src/lib.rt:98:41
 slice-aggregate-read-field-2 : tie.Need-slice-aggregate-read-field-2
 slice-aggregate-read-field-2 c = search needs
 
--- src/lib.rt:98:9
 read-field-requires-2 : tie.Need-read-field-requires-2
 read-field-requires-2 c κs = search needs
 
--- src/lib.rt:99:32
 enum-known-second : tie.Need-enum-known-second
 enum-known-second c = search needs
 
--- src/lib.rt:100:9
 enum-told-2 : tie.Need-enum-told-2
 enum-told-2 c = search needs
 
--- src/lib.rt:100:9
 returns-3 : tie.Need-returns-3
 returns-3 c =
     let x = c .before .before .before .before .before .before .before in
@@ -63,11 +48,9 @@ returns-3 c =
     let f = sym (c .before .before .read-field2 .ensures) ∙ ap (numeralIn (a .text .now)) (c .enum-told2 .given .1) in
     no-new (a .text .now) (a .extents .now) (a .recorded .now) (a .dirty .now) (x .before .before .if1 .left) _ _ e f
 
--- src/lib.rt:102:5
 parse-lists-requires : tie.Need-parse-lists-requires
 parse-lists-requires c κs = search needs
 
--- src/lib.rt:83:1
 returns-4 : tie.Need-returns-4
 returns-4 c =
     let y = c .before .before .before .before .before .before .before in

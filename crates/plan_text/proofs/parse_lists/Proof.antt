@@ -1,33 +1,23 @@
+-- `plan_text::parse_lists` meets its contract: what the three kinds of lines answered, put together. A buffer of 2,048 numbers is for 1,024 runs.
 use Rattle.decimal.specs.Text.{from}
 use Rattle.plan_text.specs.declared.section.Lines.{Lines}
 use Rattle.plan_text.specs.Fill.{linesIn}
 use Rattle.plan_text.specs.Whole.{extents-broken, records-broken, dirty-broken, text-left, all-read, left-some, left-none, extents-limit, records-limit, dirty-limit}
-use mathlib.Core.Path.{_≡_, refl, sym, ap, _∙_}
-use Prim.Native.Nat.{ℕ, _+_, _-_, _*_, _/_, _≤_, _<_}
-use native.Mathlib.Omega.{arith}
+use mathlib.Core.Path.{_≡_, sym, ap, _∙_}
 use lib.ListN.{length}
 use borrow.Author.Needs.{needs}
 use Rattle.plan_text.proofs.parse_lists.Statement.{statement}
 use Rattle.plan_text.proofs.parse_lists.Tie as tie
-use Rattle.plan_text.proofs.parse_lists.Reads as reads
-use Rattle.plan_text.proofs.parse_lists.Lts as lts
-use Rattle.plan_text.proofs.section.read_dirty.Reads as read-dirty-reads
-use Rattle.plan_text.proofs.section.read_extents.Reads as read-extents-reads
-use Rattle.plan_text.proofs.section.read_records.Reads as read-records-reads
 
--- src/lib.rt:57:9
 read-extents-requires : tie.Need-read-extents-requires
 read-extents-requires c κs = search needs
 
--- src/lib.rt:58:31
 enum-known-first : tie.Need-enum-known-first
 enum-known-first c = search needs
 
--- src/lib.rt:59:9
 enum-told : tie.Need-enum-told
 enum-told c = search needs
 
--- src/lib.rt:59:9
 returns : tie.Need-returns
 returns c =
     let x = c .before .before in
@@ -36,19 +26,15 @@ returns c =
     let e = ap (λ (v : Lines). linesIn (a .text .now) v (x .read-extents .last .1 .1 .0)) (sym (c .enum-told .given .1)) ∙ x .read-extents .ensures ∙ extents-limit (from (a .text .now) (a .at)) (a .extents .now) A in
     extents-broken (a .old) (a .new) (from (a .text .now) (a .at)) (a .extents .now) (a .recorded .now) (a .dirty .now) _ e
 
--- src/lib.rt:61:9
 read-records-requires : tie.Need-read-records-requires
 read-records-requires c κs = search needs
 
--- src/lib.rt:62:31
 enum-known-second : tie.Need-enum-known-second
 enum-known-second c = search needs
 
--- src/lib.rt:63:9
 enum-told-2 : tie.Need-enum-told-2
 enum-told-2 c = search needs
 
--- src/lib.rt:63:9
 returns-2 : tie.Need-returns-2
 returns-2 c =
     let x = c .before .before .before .before .before .before .before in
@@ -60,19 +46,15 @@ returns-2 c =
     let f = ap (λ (v : Lines). linesIn (a .text .now) v (y .read-records .last .1 .1 .0)) (sym (c .enum-told2 .given .1)) ∙ y .read-records .ensures ∙ records-limit _ (a .recorded .now) B in
     records-broken (a .old) (a .new) (from (a .text .now) (a .at)) (a .extents .now) (a .recorded .now) (a .dirty .now) _ _ _ _ e f
 
--- src/lib.rt:65:9
 read-dirty-requires : tie.Need-read-dirty-requires
 read-dirty-requires c κs = search needs
 
--- src/lib.rt:66:31
 enum-known-third : tie.Need-enum-known-third
 enum-known-third c = search needs
 
--- src/lib.rt:67:9
 enum-told-3 : tie.Need-enum-told-3
 enum-told-3 c = search needs
 
--- src/lib.rt:67:9
 returns-3 : tie.Need-returns-3
 returns-3 c =
     let x = c .before .before .before .before .before .before .before .before .before .before .before .before in
@@ -87,7 +69,6 @@ returns-3 c =
     let g = ap (λ (v : Lines). linesIn (a .text .now) v (z .read-dirty .last .1 .1 .0)) (sym (c .enum-told3 .given .1)) ∙ z .read-dirty .ensures ∙ dirty-limit _ (a .dirty .now) C in
     dirty-broken (a .old) (a .new) (from (a .text .now) (a .at)) (a .extents .now) (a .recorded .now) (a .dirty .now) _ _ _ _ e _ _ _ f g
 
--- src/lib.rt:70:9
 returns-4 : tie.Need-returns-4
 returns-4 c =
     let x = c .before .before .before .before .before .before .before .before .before .before .before .before .before .before in
@@ -102,7 +83,6 @@ returns-4 c =
     let g = ap (λ (v : Lines). linesIn (a .text .now) v (z .read-dirty .last .1 .1 .0)) (sym (c .before .before .third .given .1)) ∙ z .read-dirty .ensures ∙ dirty-limit _ (a .dirty .now) C in
     text-left (a .old) (a .new) (from (a .text .now) (a .at)) (a .extents .now) (a .recorded .now) (a .dirty .now) _ _ _ _ e _ _ _ f _ _ g (left-some (a .text .now) _ (c .if1 .taken))
 
--- src/lib.rt:45:1
 returns-5 : tie.Need-returns-5
 returns-5 c =
     let x = c .before .before .before .before .before .before .before .before .before .before .before .before .before .before in

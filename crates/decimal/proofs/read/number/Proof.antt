@@ -1,60 +1,43 @@
-use mathlib.Core.Path.{_≡_, refl, sym, ap, _∙_}
-use mathlib.Core.List.{List, [], _∷_, _++_}
+-- `decimal::number` meets its contract: each return is a law of the definition.
+use mathlib.Core.Path.{sym, ap, _∙_}
 use native.Mathlib.Omega.{arith}
-use lib.ListN.{length, drop, getD, set}
-use Prim.Native.Nat.{ℕ, _+_, _-_, _*_, _/_, _%_, _≤_, _<_}
+use Prim.Native.Nat.{ℕ, _-_}
 use borrow.Author.Tests.{not-true, not-false}
 use Rattle.decimal.specs.Read.{digit-means, number-out, number-other, number-alone, number-on}
 use borrow.Author.Needs.{needs}
 use Rattle.decimal.proofs.read.number.Statement.{statement}
 use Rattle.decimal.proofs.read.number.Tie as tie
-use Rattle.decimal.proofs.read.number.Reads as reads
-use Rattle.decimal.proofs.read.number.Lts as lts
-use Rattle.decimal.proofs.read.digits.Reads as digits-reads
-use Rattle.decimal.proofs.read.is_digit.Reads as is-digit-reads
-use Rattle.decimal.proofs.read.wide.Reads as wide-reads
 
--- src/read.rt:108:9
 returns : tie.Need-returns
 returns c = sym (number-out _ _ (c .if1 .taken))
 
--- src/read.rt:110:17
 shared-slice-read-first : tie.Need-shared-slice-read-first
 shared-slice-read-first c = search needs
 
--- src/read.rt:111:9
 is-digit-requires : tie.Need-is-digit-requires
 is-digit-requires c κs = search needs
 
--- src/read.rt:112:9
 returns-2 : tie.Need-returns-2
 returns-2 c = sym (number-other _ _ (c .before .before .before .if1 .left) (sym (c .before .is-digit .ensures) ∙ not-true (c .before .is-digit .result) (c .if2 .taken)))
 
--- src/read.rt:117:19
 add-t9 : tie.Need-add-t9
 add-t9 c = search needs
 
--- src/read.rt:115:9
 returns-3 : tie.Need-returns-3
 returns-3 c = sym (number-alone _ _ (c .before .before .before .before .if1 .left) (c .if3 .taken))
 
--- src/read.rt:120:18
 add-digits : tie.Need-add-digits
 add-digits c = search needs
 
--- src/read.rt:120:26
 wide-requires : tie.Need-wide-requires
 wide-requires c κs = search needs
 
--- src/read.rt:120:26
 sub-digits : tie.Need-sub-digits
 sub-digits c = omega (arith, digit-means _ (sym (c .before .before .before .is-digit .ensures) ∙ not-false (c .before .before .before .is-digit .result) (c .before .before .if2 .left)))
 
--- src/read.rt:120:5
 digits-requires : tie.Need-digits-requires
 digits-requires c κs = search needs
 
--- src/read.rt:103:1
 returns-4 : tie.Need-returns-4
 returns-4 c =
     let s = c .before .before .before .before .before .before .before .before in

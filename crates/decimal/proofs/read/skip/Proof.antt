@@ -1,18 +1,14 @@
+-- `decimal::skip` meets its contract. The loop's invariant: what is left of the word, read from here on, is the word read from `at` on.
 use borrow.Author.Needs.{needs}
-use mathlib.Core.Path.{_≡_, refl, sym, ap, _∙_}
-use mathlib.Core.Bool.{true, false}
-use mathlib.Core.List.{List, [], _∷_, _++_}
-use Prim.Native.Nat.{ℕ, _+_, _-_, _*_, _/_, _%_, _≤_, _<_}
+use mathlib.Core.Path.{_≡_, sym, _∙_}
+use Prim.Native.Nat.{_-_, _≤_}
 use native.Mathlib.Omega.{arith}
-use lib.ListN.{length, drop, getD, set}
+use lib.ListN.{length, drop}
 use borrow.Author.Tests.{not-true, not-false}
-use Rattle.decimal.specs.Text.{from, isAt, skip}
+use Rattle.decimal.specs.Text.{from, skip}
 use Rattle.decimal.specs.Read.{is-at-within, skip-step, skip-stop, skip-done}
 use Rattle.decimal.proofs.read.skip.Statement.{statement}
 use Rattle.decimal.proofs.read.skip.Tie as tie
-use Rattle.decimal.proofs.read.skip.Reads as reads
-use Rattle.decimal.proofs.read.skip.Lts as lts
-use Rattle.decimal.proofs.read.is_at.Reads as is-at-reads
 
 abbrev Inv-loop : tie.InvT-loop
 Inv-loop text at word here₀ i₀ here i = (i ≤ length word) × (skip (drop i word) (from text here) ≡ skip word (from text here₀))
@@ -20,48 +16,39 @@ Inv-loop text at word here₀ i₀ here i = (i ≤ length word) × (skip (drop i
 abbrev μ-loop : tie.MeasureT-loop
 μ-loop text at word here₀ i₀ here i = length word - i
 
--- src/read.rt:52:5
 loop-holds : tie.Need-loop-holds Inv-loop μ-loop
 loop-holds c = search needs
 
--- src/read.rt:53:31
 shared-slice-read-is-at : tie.Need-shared-slice-read-is-at Inv-loop μ-loop
 shared-slice-read-is-at c = search needs
 
--- src/read.rt:53:13
 is-at-requires : tie.Need-is-at-requires Inv-loop μ-loop
 is-at-requires c κs = search needs
 
--- src/read.rt:54:13
 returns : tie.Need-returns Inv-loop μ-loop
 returns c =
     let l = c .before .before .before .before in
     let a = l .before .before .before .args in
     sym (skip-stop (a .text .now) (l .loop .here) (a .word .now) (l .loop .i) (omega arith) (sym (c .before .is-at .ensures) ∙ not-true (c .before .is-at .result) (c .if1 .taken))) ∙ l .loop .inv .1
 
--- src/read.rt:56:9
 add-here : tie.Need-add-here Inv-loop μ-loop
 add-here c =
     let l = c .before .before .before .before in
     let a = l .before .before .before .args in
     omega (arith, is-at-within _ (a .text .now) (l .loop .here) (sym (c .before .is-at .ensures) ∙ not-false (c .before .is-at .result) (c .if1 .left)))
 
--- src/read.rt:57:9
 add-i : tie.Need-add-i Inv-loop μ-loop
 add-i c = search needs
 
--- src/read.rt:52:5
 loop-less : tie.Need-loop-less Inv-loop μ-loop
 loop-less c = search needs
 
--- src/read.rt:52:5
 loop-again : tie.Need-loop-again Inv-loop μ-loop
 loop-again c =
     let l = c .before .before .before .before in
     let a = l .before .before .before .args in
     (search needs, skip-step (a .text .now) (l .loop .here) (a .word .now) (l .loop .i) (omega arith) (sym (c .before .is-at .ensures) ∙ not-false (c .before .is-at .result) (c .if1 .left)) ∙ l .loop .inv .1)
 
--- src/read.rt:46:1
 returns-2 : tie.Need-returns-2 Inv-loop μ-loop
 returns-2 c =
     let l = c .before in

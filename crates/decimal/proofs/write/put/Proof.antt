@@ -1,18 +1,14 @@
+-- `decimal::put` meets its contract. The loop's invariant: what is left of the word, put at `next`, makes what the whole word makes at `at`.
 use Rattle.decimal.specs.Write.{write-step, write-done}
 use lib.ListN.{length-set}
 use borrow.Author.Needs.{needs}
-use mathlib.Core.Path.{_≡_, refl, sym, ap, _∙_}
-use mathlib.Core.Bool.{true, false}
-use mathlib.Core.List.{List, [], _∷_, _++_}
-use Prim.Native.Nat.{ℕ, _+_, _-_, _*_, _/_, _%_, _≤_, _<_}
+use mathlib.Core.Path.{_≡_, sym, _∙_}
+use Prim.Native.Nat.{_+_, _-_, _≤_}
 use native.Mathlib.Omega.{arith}
-use lib.ListN.{length, drop, getD, set}
-use borrow.Author.Tests.{eq-eqb, ne-eqb, lt-ltb, le-ltb}
-use Rattle.decimal.specs.Write.{write, written}
+use lib.ListN.{length, drop}
+use Rattle.decimal.specs.Write.{write}
 use Rattle.decimal.proofs.write.put.Statement.{statement}
 use Rattle.decimal.proofs.write.put.Tie as tie
-use Rattle.decimal.proofs.write.put.Reads as reads
-use Rattle.decimal.proofs.write.put.Lts as lts
 
 abbrev Inv-loop : tie.InvT-loop
 Inv-loop out₀ at word next₀ i₀ out next i = (i ≤ length word) × (length out ≡ length out₀) × (next ≡ next₀ + i) × (write next (drop i word) out ≡ write next₀ word out₀)
@@ -20,42 +16,33 @@ Inv-loop out₀ at word next₀ i₀ out next i = (i ≤ length word) × (length
 abbrev μ-loop : tie.MeasureT-loop
 μ-loop out₀ at word next₀ i₀ out next i = length word - i
 
--- src/write.rt:15:5
 loop-holds : tie.Need-loop-holds Inv-loop μ-loop
 loop-holds c = search needs
 
--- src/write.rt:16:21
 shared-slice-read-out : tie.Need-shared-slice-read-out Inv-loop μ-loop
 shared-slice-read-out c = search needs
 
--- src/write.rt:16:9
 slice-write-out : tie.Need-slice-write-out Inv-loop μ-loop
 slice-write-out c = search needs
 
--- src/write.rt:17:9
 add-next : tie.Need-add-next Inv-loop μ-loop
 add-next c = search needs
 
--- src/write.rt:18:9
 add-i : tie.Need-add-i Inv-loop μ-loop
 add-i c = search needs
 
--- src/write.rt:15:5
 loop-less : tie.Need-loop-less Inv-loop μ-loop
 loop-less c = search needs
 
--- src/write.rt:15:5
 loop-again : tie.Need-loop-again Inv-loop μ-loop
 loop-again c =
     let l = c .before .before in
     let a = l .before .args in
     (search needs, simp length-set (l .loop .inv .1), omega arith, write-step (l .loop .next) (a .word .now) (l .loop .i) (l .loop .out) (omega arith) ∙ l .loop .inv .3)
 
--- src/write.rt:9:1
 same-length : tie.Need-same-length Inv-loop μ-loop
 same-length c = search needs
 
--- src/write.rt:9:1
 returns : tie.Need-returns Inv-loop μ-loop
 returns c =
     let l = c .before in

@@ -1,27 +1,20 @@
-use mathlib.Core.Path.{_≡_, refl, sym, ap, _∙_}
-use Rattle.decimal.specs.Places.{numeralIn, placeIn}
+-- `plan_text::read_field` meets its contract: each return is the definition with what the calls before it answered.
+use mathlib.Core.Path.{sym, ap, _∙_}
+use Rattle.decimal.specs.Places.{placeIn}
 use Rattle.plan_text.specs.Parse.{readField}
 use borrow.Author.Needs.{needs}
 use Rattle.plan_text.proofs.line.read_field.Statement.{statement}
 use Rattle.plan_text.proofs.line.read_field.Tie as tie
-use Rattle.plan_text.proofs.line.read_field.Reads as reads
-use Rattle.plan_text.proofs.line.read_field.Lts as lts
-use Rattle.decimal.proofs.skip.Reads as skip-reads
-use Rattle.plan_text.proofs.line.read_number.Reads as read-number-reads
 
--- src/line.rt:72:9
 skip-requires : tie.Need-skip-requires
 skip-requires c κs = search needs
 
--- src/line.rt:73:19
 enum-known-found : tie.Need-enum-known-found
 enum-known-found c = search needs
 
--- src/line.rt:74:9
 enum-told : tie.Need-enum-told
 enum-told c = search needs
 
--- src/line.rt:74:9
 returns : tie.Need-returns
 unfolding readField
 returns c =
@@ -29,11 +22,9 @@ returns c =
     let e = sym (c .before .before .skip .ensures) ∙ ap (placeIn t) (c .enum-told .given .1) in
     simp e
 
--- src/line.rt:76:5
 read-number-requires : tie.Need-read-number-requires
 read-number-requires c κs = search needs
 
--- src/line.rt:68:1
 returns-2 : tie.Need-returns-2
 unfolding readField
 returns-2 c =

@@ -1,28 +1,20 @@
-use mathlib.Core.Path.{_≡_, refl, sym, ap, _∙_}
+-- `plan_text::read_run` meets its contract: each return is the definition with what the calls before it answered.
+use mathlib.Core.Path.{sym, ap, _∙_}
 use Rattle.decimal.specs.Places.{numeralIn, placeIn}
 use Rattle.plan_text.specs.Parse.{readRun}
 use borrow.Author.Needs.{needs}
 use Rattle.plan_text.proofs.line.read_run.Statement.{statement}
 use Rattle.plan_text.proofs.line.read_run.Tie as tie
-use Rattle.plan_text.proofs.line.read_run.Reads as reads
-use Rattle.plan_text.proofs.line.read_run.Lts as lts
-use Rattle.decimal.proofs.number.Reads as number-reads
-use Rattle.decimal.proofs.skip.Reads as skip-reads
-use Rattle.plan_text.proofs.line.read_number.Reads as read-number-reads
 
--- src/line.rt:48:9
 number-requires : tie.Need-number-requires
 number-requires c κs = search needs
 
--- src/line.rt:49:32
 enum-known-first : tie.Need-enum-known-first
 enum-known-first c = search needs
 
--- src/line.rt:50:9
 enum-told : tie.Need-enum-told
 enum-told c = search needs
 
--- src/line.rt:50:9
 returns : tie.Need-returns
 unfolding readRun
 returns c =
@@ -30,23 +22,18 @@ returns c =
     let e = sym (c .before .before .number .ensures) ∙ ap (numeralIn t) (c .enum-told .given .1) in
     simp e
 
--- src/line.rt:52:34
 slice-aggregate-skip : tie.Need-slice-aggregate-skip
 slice-aggregate-skip c = search needs
 
--- src/line.rt:52:9
 skip-requires : tie.Need-skip-requires
 skip-requires c κs = search needs
 
--- src/line.rt:53:19
 enum-known-found : tie.Need-enum-known-found
 enum-known-found c = search needs
 
--- src/line.rt:54:9
 enum-told-2 : tie.Need-enum-told-2
 enum-told-2 c = search needs
 
--- src/line.rt:54:9
 returns-2 : tie.Need-returns-2
 unfolding readRun
 returns-2 c =
@@ -56,19 +43,15 @@ returns-2 c =
     let g = sym (c .before .before .skip .ensures) ∙ ap (placeIn t) (c .enum-told2 .given .1) in
     simp (e, g)
 
--- src/line.rt:56:9
 read-number-requires : tie.Need-read-number-requires
 read-number-requires c κs = search needs
 
--- src/line.rt:57:32
 enum-known-second : tie.Need-enum-known-second
 enum-known-second c = search needs
 
--- src/line.rt:58:9
 enum-told-3 : tie.Need-enum-told-3
 enum-told-3 c = search needs
 
--- src/line.rt:58:9
 returns-3 : tie.Need-returns-3
 unfolding readRun
 returns-3 c =
@@ -80,7 +63,6 @@ returns-3 c =
     let h = sym (c .before .before .read-number .ensures) ∙ ap (numeralIn t) (c .enum-told3 .given .1) in
     simp (e, g, h)
 
--- src/line.rt:44:1
 returns-4 : tie.Need-returns-4
 unfolding readRun
 returns-4 c =

@@ -1,8 +1,6 @@
-use mathlib.Core.Path.{_≡_, refl, sym, ap, _∙_}
-use mathlib.Core.List.{List, _++_}
-use Prim.Native.Nat.{ℕ, _+_, _-_, _*_, _/_, _≤_, _<_}
+-- `plan_text::print` meets its contract.
+use mathlib.Core.Path.{sym, ap, _∙_}
 use native.Mathlib.Omega.{arith}
-use lib.ListN.{length}
 use Rattle.meta.specs.Runs.{runsOf}
 use Rattle.decimal.specs.Write.{write}
 use Rattle.plan_text.specs.declared.Answer.{Answer}
@@ -11,62 +9,45 @@ use Rattle.plan_text.specs.Print.{printed-room, printed-short, runs-half
 use borrow.Author.Needs.{needs}
 use Rattle.plan_text.proofs.report.print.Statement.{statement}
 use Rattle.plan_text.proofs.report.print.Tie as tie
-use Rattle.plan_text.proofs.report.print.Reads as reads
-use Rattle.plan_text.proofs.report.print.Lts as lts
-use Rattle.decimal.proofs.put.Reads as put-reads
-use Rattle.plan_text.proofs.report.put_plan.Reads as put-plan-reads
 
--- src/report.rt:71:9
 returns : tie.Need-returns
 returns c = sym (printed-short _ _ _ (omega arith))
 
--- src/report.rt:73:9
 sub-if2 : tie.Need-sub-if2
 sub-if2 c = search needs
 
--- src/report.rt:74:9
 returns-2 : tie.Need-returns-2
 returns-2 c =
     let a = c .before .before .before .before .args in
     sym (printed-short _ _ _ (omega (arith, runs-half (a .runs .now))))
 
--- src/report.rt:77:26
 enum-known-answer : tie.Need-enum-known-answer
 enum-known-answer c = search needs
 
--- src/report.rt:77:36
 put-plan-requires : tie.Need-put-plan-requires
 put-plan-requires c κs = search needs
 
--- src/report.rt:78:32
 enum-told : tie.Need-enum-told
 enum-told c = search needs
 
--- src/report.rt:78:40
 slice-aggregate-put : tie.Need-slice-aggregate-put
 slice-aggregate-put c = search needs
 
--- src/report.rt:78:28
 put-requires : tie.Need-put-requires
 put-requires c κs = search needs
 
--- src/report.rt:79:34
 enum-told-2 : tie.Need-enum-told-2
 enum-told-2 c = search needs
 
--- src/report.rt:79:42
 slice-aggregate-put-2 : tie.Need-slice-aggregate-put-2
 slice-aggregate-put-2 c = search needs
 
--- src/report.rt:79:30
 put-requires-2 : tie.Need-put-requires-2
 put-requires-2 c κs = search needs
 
--- src/report.rt:67:1
 same-length : tie.Need-same-length
 same-length c = search needs
 
--- src/report.rt:67:1
 returns-3 : tie.Need-returns-3
 returns-3 c =
     let p = c .before .before in
@@ -75,11 +56,9 @@ returns-3 c =
     p .put-plan .ensures ∙ ap (λ (x : Answer). write 0 (report x (runsOf (a .runs .now))) (a .out .now)) (sym (m .answer .given .1))
     ∙ sym (printed-room (a .answer) (runsOf (a .runs .now)) (a .out .now) (omega (arith, runs-half (a .runs .now))))
 
--- src/report.rt:67:1
 same-length-2 : tie.Need-same-length-2
 same-length-2 c = search needs
 
--- src/report.rt:67:1
 returns-4 : tie.Need-returns-4
 unfolding report
 returns-4 c =
@@ -89,11 +68,9 @@ returns-4 c =
     p .put .ensures ∙ ap (λ (x : Answer). write 0 (report x (runsOf (a .runs .now))) (a .out .now)) (sym (m .enum-told .given .1))
     ∙ sym (printed-room (a .answer) (runsOf (a .runs .now)) (a .out .now) (omega (arith, runs-half (a .runs .now))))
 
--- src/report.rt:67:1
 same-length-3 : tie.Need-same-length-3
 same-length-3 c = search needs
 
--- src/report.rt:67:1
 returns-5 : tie.Need-returns-5
 unfolding report
 returns-5 c =

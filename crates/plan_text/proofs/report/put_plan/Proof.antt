@@ -1,45 +1,35 @@
-use mathlib.Core.Path.{_≡_, refl, sym, ap, _∙_}
-use mathlib.Core.List.{List, _++_}
-use Prim.Native.Nat.{ℕ, _+_, _-_, _*_, _/_, _≤_, _<_}
+-- `plan_text::put_plan` meets its contract: four pieces, one behind the other.
+use mathlib.Core.Path.{sym, ap, _∙_}
+use mathlib.Core.List.{_++_}
+use Prim.Native.Nat.{ℕ, _/_}
 use native.Mathlib.Omega.{arith}
 use lib.ListN.{length}
 use Rattle.meta.specs.Runs.{runsOf}
-use Rattle.decimal.specs.Write.{write, next-is, bytes-stay, write-then}
+use Rattle.decimal.specs.Write.{write, next-is, write-then}
 use Rattle.plan_text.specs.Grammar.{ascii, numberValue, runValue, lines, report}
 use Rattle.plan_text.specs.Print.{value-length, runs-half}
 use borrow.Author.Needs.{needs}
 use Rattle.plan_text.proofs.report.put_plan.Statement.{statement}
 use Rattle.plan_text.proofs.report.put_plan.Tie as tie
-use Rattle.plan_text.proofs.report.put_plan.Reads as reads
-use Rattle.plan_text.proofs.report.put_plan.Lts as lts
-use Rattle.decimal.proofs.put.Reads as put-reads
-use Rattle.plan_text.proofs.report.put_runs.Reads as put-runs-reads
-use Rattle.plan_text.proofs.report.put_value.Reads as put-value-reads
 
--- src/report.rt:59:29
 slice-aggregate-put : tie.Need-slice-aggregate-put
 slice-aggregate-put c = search needs
 
--- src/report.rt:59:9
 put-requires : tie.Need-put-requires
 put-requires c κs = search needs
 
--- src/report.rt:60:40
 slice-aggregate-put-value : tie.Need-slice-aggregate-put-value
 slice-aggregate-put-value c = search needs
 
--- src/report.rt:60:9
 put-value-requires : tie.Need-put-value-requires
 put-value-requires c κs =
     let x = c .before .before .before .before in
     let a = x .before .before .before .before .before .args in
     omega (arith, next-is 0 (ascii "result=accepted\n") (a .out .now) _ _ (x .put .ensures))
 
--- src/report.rt:61:40
 slice-aggregate-put-value-2 : tie.Need-slice-aggregate-put-value-2
 slice-aggregate-put-value-2 c = search needs
 
--- src/report.rt:61:9
 put-value-requires-2 : tie.Need-put-value-requires-2
 put-value-requires-2 c κs =
     let y = c .before .before .before .before in
@@ -52,7 +42,6 @@ put-value-requires-2 c κs =
       value-length (a .pages),
     )
 
--- src/report.rt:62:5
 put-runs-requires : tie.Need-put-runs-requires
 put-runs-requires c κs =
     let z = c .before .before .before in
@@ -68,11 +57,9 @@ put-runs-requires c κs =
       value-length (length (a .runs .now) / 2),
     )
 
--- src/report.rt:54:1
 same-length : tie.Need-same-length
 same-length c = search needs
 
--- src/report.rt:54:1
 returns : tie.Need-returns
 unfolding report
 returns c =

@@ -1,39 +1,27 @@
-use mathlib.Core.Path.{_≡_, refl, sym, ap, _∙_}
+-- `plan_text::put_run` meets its contract: the key, the start, and the end as a value behind a dash.
 use mathlib.Core.List.{_++_}
-use Prim.Native.Nat.{ℕ, _+_, _-_, _*_, _/_, _≤_, _<_}
 use native.Mathlib.Omega.{arith}
-use lib.ListN.{length}
 use Rattle.decimal.specs.Decimal.{decimal, decimal-length}
-use Rattle.decimal.specs.Write.{next-is, bytes-stay, write-then}
+use Rattle.decimal.specs.Write.{next-is, write-then}
 use Rattle.plan_text.specs.Grammar.{ascii, numberValue, runValue}
 use borrow.Author.Needs.{needs}
 use Rattle.plan_text.proofs.report.put_run.Statement.{statement}
 use Rattle.plan_text.proofs.report.put_run.Tie as tie
-use Rattle.plan_text.proofs.report.put_run.Reads as reads
-use Rattle.plan_text.proofs.report.put_run.Lts as lts
-use Rattle.decimal.proofs.put.Reads as put-reads
-use Rattle.decimal.proofs.put_number.Reads as put-number-reads
-use Rattle.plan_text.proofs.report.put_value.Reads as put-value-reads
 
--- src/report.rt:35:30
 slice-aggregate-put : tie.Need-slice-aggregate-put
 slice-aggregate-put c = search needs
 
--- src/report.rt:35:9
 put-requires : tie.Need-put-requires
 put-requires c κs = search needs
 
--- src/report.rt:36:9
 put-number-requires : tie.Need-put-number-requires
 put-number-requires c κs =
     let a = c .before .before .before .before .before .before .before .args in
     omega (arith, next-is (a .at) (ascii "extent=") (a .out .now) _ _ (c .before .before .before .put .ensures), decimal-length (a .start))
 
--- src/report.rt:37:26
 slice-aggregate-put-value : tie.Need-slice-aggregate-put-value
 slice-aggregate-put-value c = search needs
 
--- src/report.rt:37:5
 put-value-requires : tie.Need-put-value-requires
 put-value-requires c κs =
     let n = c .before .before .before .before in
@@ -41,11 +29,9 @@ put-value-requires c κs =
     let a = p .before .before .before .before .args in
     omega (arith, next-is (a .at) (ascii "extent=") (a .out .now) _ _ (p .put .ensures), next-is _ (decimal (a .start)) _ _ _ (n .put-number .ensures), decimal-length (a .start))
 
--- src/report.rt:31:1
 same-length : tie.Need-same-length
 same-length c = search needs
 
--- src/report.rt:31:1
 returns : tie.Need-returns
 unfolding numberValue runValue
 returns c =

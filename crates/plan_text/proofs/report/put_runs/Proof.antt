@@ -1,17 +1,15 @@
+-- `plan_text::put_runs` meets its contract. The loop's invariant: the lines of the runs from here on, put at `next`, make what all lines make at `at`; each takes at most 49 bytes.
 use borrow.Author.Needs.{needs}
-use mathlib.Core.Path.{_≡_, refl, sym, ap, _∙_}
-use Prim.Native.Nat.{ℕ, _+_, _-_, _*_, _/_, _≤_, _<_}
+use mathlib.Core.Path.{_≡_, sym, _∙_}
+use Prim.Native.Nat.{_+_, _-_, _*_, _/_, _≤_}
 use native.Mathlib.Omega.{arith}
 use lib.ListN.{length, drop, getD}
 use Rattle.meta.specs.Runs.{run, runsOf}
-use Rattle.decimal.specs.Write.{write, next-is, bytes-stay}
+use Rattle.decimal.specs.Write.{write, next-is}
 use Rattle.plan_text.specs.Grammar.{ascii, runValue, lines}
 use Rattle.plan_text.specs.Print.{run-length, runs-go, runs-end}
 use Rattle.plan_text.proofs.report.put_runs.Statement.{statement}
 use Rattle.plan_text.proofs.report.put_runs.Tie as tie
-use Rattle.plan_text.proofs.report.put_runs.Reads as reads
-use Rattle.plan_text.proofs.report.put_runs.Lts as lts
-use Rattle.plan_text.proofs.report.put_run.Reads as put-run-reads
 
 abbrev Inv-loop : tie.InvT-loop
 Inv-loop out₀ at runs next₀ i₀ out next i = (1 ≤ i) × (length out ≡ length out₀) × (next + 49 * ((length runs + 1 - i) / 2) ≤ length out₀) × (write next (lines (ascii "extent=") runValue (runsOf (drop (i - 1) runs))) out ≡ write at (lines (ascii "extent=") runValue (runsOf runs)) out₀)
@@ -19,43 +17,33 @@ Inv-loop out₀ at runs next₀ i₀ out next i = (1 ≤ i) × (length out ≡ l
 abbrev μ-loop : tie.MeasureT-loop
 μ-loop out₀ at runs next₀ i₀ out next i = length runs - i
 
--- src/report.rt:47:5
 loop-holds : tie.Need-loop-holds Inv-loop μ-loop
 loop-holds c = search needs
 
--- src/report.rt:48:40
 sub-put-run : tie.Need-sub-put-run Inv-loop μ-loop
 sub-put-run c = search needs
 
--- src/report.rt:48:35
 mul-put-run : tie.Need-mul-put-run Inv-loop μ-loop
 mul-put-run c = search needs
 
--- src/report.rt:48:35
 shared-slice-read-put-run : tie.Need-shared-slice-read-put-run Inv-loop μ-loop
 shared-slice-read-put-run c = search needs
 
--- src/report.rt:48:48
 mul-put-run-2 : tie.Need-mul-put-run-2 Inv-loop μ-loop
 mul-put-run-2 c = search needs
 
--- src/report.rt:48:48
 shared-slice-read-put-run-2 : tie.Need-shared-slice-read-put-run-2 Inv-loop μ-loop
 shared-slice-read-put-run-2 c = search needs
 
--- src/report.rt:48:9
 put-run-requires : tie.Need-put-run-requires Inv-loop μ-loop
 put-run-requires c κs = search needs
 
--- src/report.rt:49:9
 add-i : tie.Need-add-i Inv-loop μ-loop
 add-i c = search needs
 
--- src/report.rt:47:5
 loop-less : tie.Need-loop-less Inv-loop μ-loop
 loop-less c = search needs
 
--- src/report.rt:47:5
 loop-again : tie.Need-loop-again Inv-loop μ-loop
 loop-again c =
     let p = c .before .before in
@@ -70,11 +58,9 @@ loop-again c =
       runs-go r i (l .loop .next) (l .loop .out) _ _ (omega arith) (omega arith) (p .put-run .ensures) ∙ l .loop .inv .3,
     )
 
--- src/report.rt:41:1
 same-length : tie.Need-same-length Inv-loop μ-loop
 same-length c = search needs
 
--- src/report.rt:41:1
 returns : tie.Need-returns Inv-loop μ-loop
 returns c =
     let l = c .before in

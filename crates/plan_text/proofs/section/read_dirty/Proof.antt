@@ -1,8 +1,7 @@
-use mathlib.Core.Path.{_≡_, refl, sym, ap, _∙_}
-use mathlib.Core.List.{List}
-use Prim.Native.Nat.{ℕ, _+_, _-_, _*_, _/_, _≤_, _<_}
+-- `plan_text::read_dirty` meets its contract: the buffer's first numbers are those that were read.
+use mathlib.Core.Path.{refl, sym, ap, _∙_}
 use native.Mathlib.Omega.{arith}
-use lib.ListN.{length, take}
+use lib.ListN.{length}
 use lib.Seq.{length-take-le}
 use Rattle.decimal.specs.Text.{from}
 use Rattle.plan_text.specs.declared.section.Lines.{Lines}
@@ -13,32 +12,22 @@ use Rattle.plan_text.specs.Tested.{pages, pages-short, used-fits, test-p
 use borrow.Author.Needs.{needs}
 use Rattle.plan_text.proofs.section.read_dirty.Statement.{statement}
 use Rattle.plan_text.proofs.section.read_dirty.Tie as tie
-use Rattle.plan_text.proofs.section.read_dirty.Reads as reads
-use Rattle.plan_text.proofs.section.read_dirty.Lts as lts
-use Rattle.plan_text.proofs.section.read_pages.Reads as read-pages-reads
-use Rattle.plan_text.proofs.tests.are_distinct.Reads as are-distinct-reads
 
--- src/section.rt:130:38
 slice-aggregate-read-pages : tie.Need-slice-aggregate-read-pages
 slice-aggregate-read-pages c = search needs
 
--- src/section.rt:130:9
 read-pages-requires : tie.Need-read-pages-requires
 read-pages-requires c κs = search needs
 
--- src/section.rt:131:24
 enum-known-lines : tie.Need-enum-known-lines
 enum-known-lines c = search needs
 
--- src/section.rt:132:9
 enum-told : tie.Need-enum-told
 enum-told c = search needs
 
--- src/section.rt:132:9
 same-length : tie.Need-same-length
 same-length c = search needs
 
--- src/section.rt:132:9
 returns : tie.Need-returns
 returns c =
     let d = c .before .before .before .before in
@@ -46,7 +35,6 @@ returns c =
     let s = section readNumber (ascii "dirty=") (length (a .out .now)) (from (a .text .now) (a .at)) in
     broken-before pages (a .out .now) (d .read-pages .last .1 .1 .1 .0) s distinct (ap (λ (x : Lines). linesIn (a .text .now) x (d .read-pages .last .1 .1 .1 .0)) (sym (c .enum-told .given .1)) ∙ d .read-pages .ensures)
 
--- src/section.rt:134:21
 slice-reshare-prefix-are-distinct : tie.Need-slice-reshare-prefix-are-distinct
 slice-reshare-prefix-are-distinct c =
     let f = c .before in
@@ -57,7 +45,6 @@ slice-reshare-prefix-are-distinct c =
     let h = used-fits pages (a .out .now) _ _ (d .read-pages .last .1 .1 .1 .0) s (λ xs m. pages-short (ascii "dirty=") _ (a .out .now) xs m) e in
     search needs
 
--- src/section.rt:134:21
 slice-aggregate-are-distinct : tie.Need-slice-aggregate-are-distinct
 slice-aggregate-are-distinct c =
     let f = c .before .before in
@@ -68,15 +55,12 @@ slice-aggregate-are-distinct c =
     let h = used-fits pages (a .out .now) _ _ (d .read-pages .last .1 .1 .1 .0) s (λ xs m. pages-short (ascii "dirty=") _ (a .out .now) xs m) e in
     sym (length-take-le _ _ (omega arith))
 
--- src/section.rt:134:8
 are-distinct-requires : tie.Need-are-distinct-requires
 are-distinct-requires c κs = search needs
 
--- src/section.rt:135:9
 same-length-2 : tie.Need-same-length-2
 same-length-2 c = search needs
 
--- src/section.rt:135:9
 returns-2 : tie.Need-returns-2
 returns-2 c =
     let f = c .before .before .before .before in
@@ -87,11 +71,9 @@ returns-2 c =
     let h = used-fits pages (a .out .now) _ _ (d .read-pages .last .1 .1 .1 .0) s (λ xs m. pages-short (ascii "dirty=") _ (a .out .now) xs m) e in
     test-passed pages (a .out .now) _ _ (d .read-pages .last .1 .1 .1 .0) s (λ xs m. pages-short (ascii "dirty=") _ (a .out .now) xs m) e distinct distinct (λ xs. refl) (sym (c .before .are-distinct .ensures) ∙ c .if1 .taken)
 
--- src/section.rt:126:1
 same-length-3 : tie.Need-same-length-3
 same-length-3 c = search needs
 
--- src/section.rt:126:1
 returns-3 : tie.Need-returns-3
 returns-3 c =
     let f = c .before .before .before .before in

@@ -1,8 +1,8 @@
-use mathlib.Core.Path.{_≡_, refl, sym, ap, _∙_}
-use mathlib.Core.List.{List}
-use Prim.Native.Nat.{ℕ, _+_, _-_, _*_, _/_, _≤_, _<_}
+-- `plan_text::read_extents` meets its contract: the buffer's first numbers are those of the runs that were read.
+use mathlib.Core.Path.{sym, ap, _∙_}
+use Prim.Native.Nat.{_/_}
 use native.Mathlib.Omega.{arith}
-use lib.ListN.{length, take}
+use lib.ListN.{length}
 use lib.Seq.{length-take-le}
 use Rattle.decimal.specs.Text.{from}
 use Rattle.plan_text.specs.declared.section.Lines.{Lines}
@@ -14,32 +14,22 @@ use Rattle.meta.specs.Runs.{normalized}
 use borrow.Author.Needs.{needs}
 use Rattle.plan_text.proofs.section.read_extents.Statement.{statement}
 use Rattle.plan_text.proofs.section.read_extents.Tie as tie
-use Rattle.plan_text.proofs.section.read_extents.Reads as reads
-use Rattle.plan_text.proofs.section.read_extents.Lts as lts
-use Rattle.plan_text.proofs.section.read_runs.Reads as read-runs-reads
-use Rattle.plan_text.proofs.tests.is_ascending.Reads as is-ascending-reads
 
--- src/section.rt:94:37
 slice-aggregate-read-runs : tie.Need-slice-aggregate-read-runs
 slice-aggregate-read-runs c = search needs
 
--- src/section.rt:94:9
 read-runs-requires : tie.Need-read-runs-requires
 read-runs-requires c κs = search needs
 
--- src/section.rt:95:24
 enum-known-lines : tie.Need-enum-known-lines
 enum-known-lines c = search needs
 
--- src/section.rt:96:9
 enum-told : tie.Need-enum-told
 enum-told c = search needs
 
--- src/section.rt:96:9
 same-length : tie.Need-same-length
 same-length c = search needs
 
--- src/section.rt:96:9
 returns : tie.Need-returns
 returns c =
     let d = c .before .before .before .before in
@@ -47,7 +37,6 @@ returns c =
     let s = section readRun (ascii "extent=") (length (a .out .now) / 2) (from (a .text .now) (a .at)) in
     broken-before runs (a .out .now) (d .read-runs .last .1 .1 .1 .0) s normalized (ap (λ (x : Lines). linesIn (a .text .now) x (d .read-runs .last .1 .1 .1 .0)) (sym (c .enum-told .given .1)) ∙ d .read-runs .ensures)
 
--- src/section.rt:98:16
 mul-used : tie.Need-mul-used
 mul-used c =
     let f = c .before in
@@ -58,7 +47,6 @@ mul-used c =
     let h = used-fits runs (a .out .now) _ _ (d .read-runs .last .1 .1 .1 .0) s (λ xs m. runs-short (ascii "extent=") _ (a .out .now) xs m) e in
     omega arith
 
--- src/section.rt:99:21
 slice-reshare-prefix-is-ascending : tie.Need-slice-reshare-prefix-is-ascending
 slice-reshare-prefix-is-ascending c =
     let f = c .before in
@@ -69,7 +57,6 @@ slice-reshare-prefix-is-ascending c =
     let h = used-fits runs (a .out .now) _ _ (d .read-runs .last .1 .1 .1 .0) s (λ xs m. runs-short (ascii "extent=") _ (a .out .now) xs m) e in
     search needs
 
--- src/section.rt:99:21
 slice-aggregate-is-ascending : tie.Need-slice-aggregate-is-ascending
 slice-aggregate-is-ascending c =
     let f = c .before .before in
@@ -80,15 +67,12 @@ slice-aggregate-is-ascending c =
     let h = used-fits runs (a .out .now) _ _ (d .read-runs .last .1 .1 .1 .0) s (λ xs m. runs-short (ascii "extent=") _ (a .out .now) xs m) e in
     sym (length-take-le _ _ (omega arith))
 
--- src/section.rt:99:8
 is-ascending-requires : tie.Need-is-ascending-requires
 is-ascending-requires c κs = search needs
 
--- src/section.rt:100:9
 same-length-2 : tie.Need-same-length-2
 same-length-2 c = search needs
 
--- src/section.rt:100:9
 returns-2 : tie.Need-returns-2
 returns-2 c =
     let f = c .before .before .before .before in
@@ -99,11 +83,9 @@ returns-2 c =
     let h = used-fits runs (a .out .now) _ _ (d .read-runs .last .1 .1 .1 .0) s (λ xs m. runs-short (ascii "extent=") _ (a .out .now) xs m) e in
     test-passed runs (a .out .now) _ _ (d .read-runs .last .1 .1 .1 .0) s (λ xs m. runs-short (ascii "extent=") _ (a .out .now) xs m) e normalized ascending normalized-test (sym (c .before .is-ascending .ensures) ∙ c .if1 .taken)
 
--- src/section.rt:90:1
 same-length-3 : tie.Need-same-length-3
 same-length-3 c = search needs
 
--- src/section.rt:90:1
 returns-3 : tie.Need-returns-3
 returns-3 c =
     let f = c .before .before .before .before in

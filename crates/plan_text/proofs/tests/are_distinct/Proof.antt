@@ -1,15 +1,13 @@
+-- `plan_text::are_distinct` meets its contract. The loop's invariant: the numbers from here on are distinct exactly when all are.
 use borrow.Author.Needs.{needs}
-use mathlib.Core.Path.{_≡_, refl, sym, ap, _∙_}
-use Prim.Native.Nat.{ℕ, _+_, _-_, _≤_, _<_}
+use mathlib.Core.Path.{_≡_, sym, ap, _∙_}
+use Prim.Native.Nat.{_+_, _-_, _≤_}
 use native.Mathlib.Omega.{arith}
 use lib.ListN.{length, drop, getD}
 use Rattle.plan_text.specs.Grammar.{distinct, member}
 use Rattle.plan_text.specs.Tests.{distinct-go, distinct-no, distinct-end, rest-is}
 use Rattle.plan_text.proofs.tests.are_distinct.Statement.{statement}
 use Rattle.plan_text.proofs.tests.are_distinct.Tie as tie
-use Rattle.plan_text.proofs.tests.are_distinct.Reads as reads
-use Rattle.plan_text.proofs.tests.are_distinct.Lts as lts
-use Rattle.plan_text.proofs.tests.contains.Reads as contains-reads
 
 abbrev Inv-loop : tie.InvT-loop
 Inv-loop numbers i₀ i = (i ≤ length numbers) × (distinct (drop i numbers) ≡ distinct numbers)
@@ -17,43 +15,33 @@ Inv-loop numbers i₀ i = (i ≤ length numbers) × (distinct (drop i numbers) �
 abbrev μ-loop : tie.MeasureT-loop
 μ-loop numbers i₀ i = length numbers - i
 
--- src/tests.rt:51:5
 loop-holds : tie.Need-loop-holds Inv-loop μ-loop
 loop-holds c = search needs
 
--- src/tests.rt:52:17
 mul-n : tie.Need-mul-n Inv-loop μ-loop
 mul-n c = search needs
 
--- src/tests.rt:52:17
 shared-slice-read-n : tie.Need-shared-slice-read-n Inv-loop μ-loop
 shared-slice-read-n c = search needs
 
--- src/tests.rt:53:9
 add-i : tie.Need-add-i Inv-loop μ-loop
 add-i c = search needs
 
--- src/tests.rt:54:21
 mul-contains : tie.Need-mul-contains Inv-loop μ-loop
 mul-contains c = search needs
 
--- src/tests.rt:54:21
 sub-contains : tie.Need-sub-contains Inv-loop μ-loop
 sub-contains c = search needs
 
--- src/tests.rt:54:21
 part-contains-start : tie.Need-part-contains-start Inv-loop μ-loop
 part-contains-start c = search needs
 
--- src/tests.rt:54:21
 part-contains-end : tie.Need-part-contains-end Inv-loop μ-loop
 part-contains-end c = search needs
 
--- src/tests.rt:54:12
 contains-requires : tie.Need-contains-requires Inv-loop μ-loop
 contains-requires c κs = search needs
 
--- src/tests.rt:55:13
 returns : tie.Need-returns Inv-loop μ-loop
 returns c =
     let l = c .before .before .before .before .before in
@@ -61,11 +49,9 @@ returns c =
     let e = sym (c .before .contains .ensures ∙ ap (member (getD n (l .loop .i) 0)) (rest-is n (l .loop .i + 1))) ∙ c .if1 .taken in
     sym (distinct-no n (l .loop .i) (omega arith) e) ∙ l .loop .inv .1
 
--- src/tests.rt:51:5
 loop-less : tie.Need-loop-less Inv-loop μ-loop
 loop-less c = search needs
 
--- src/tests.rt:51:5
 loop-again : tie.Need-loop-again Inv-loop μ-loop
 loop-again c =
     let l = c .before .before .before .before .before in
@@ -73,7 +59,6 @@ loop-again c =
     let e = sym (c .before .contains .ensures ∙ ap (member (getD n (l .loop .i) 0)) (rest-is n (l .loop .i + 1))) ∙ c .if1 .left in
     (search needs, distinct-go n (l .loop .i) (omega arith) e ∙ l .loop .inv .1)
 
--- src/tests.rt:47:1
 returns-2 : tie.Need-returns-2 Inv-loop μ-loop
 returns-2 c =
     let l = c .before in

@@ -1,15 +1,13 @@
+-- `plan_text::contains` meets its contract.
 use borrow.Author.Needs.{needs}
-use mathlib.Core.Path.{_≡_, refl, sym, ap, _∙_}
-use mathlib.Core.Bool.{true, false}
-use Prim.Native.Nat.{ℕ, _+_, _-_, _≤_, _<_}
+use mathlib.Core.Path.{_≡_, sym, _∙_}
+use Prim.Native.Nat.{_-_}
 use native.Mathlib.Omega.{arith}
-use lib.ListN.{length, drop, getD}
+use lib.ListN.{length, drop}
 use Rattle.plan_text.specs.Grammar.{member}
 use Rattle.plan_text.specs.Tests.{member-hit, member-miss, member-end}
 use Rattle.plan_text.proofs.tests.contains.Statement.{statement}
 use Rattle.plan_text.proofs.tests.contains.Tie as tie
-use Rattle.plan_text.proofs.tests.contains.Reads as reads
-use Rattle.plan_text.proofs.tests.contains.Lts as lts
 
 abbrev Inv-loop : tie.InvT-loop
 Inv-loop numbers n i₀ i = member n (drop i numbers) ≡ member n numbers
@@ -17,41 +15,33 @@ Inv-loop numbers n i₀ i = member n (drop i numbers) ≡ member n numbers
 abbrev μ-loop : tie.MeasureT-loop
 μ-loop numbers n i₀ i = length numbers - i
 
--- src/tests.rt:38:5
 loop-holds : tie.Need-loop-holds Inv-loop μ-loop
 loop-holds c = search needs
 
--- src/tests.rt:39:12
 mul-if1 : tie.Need-mul-if1 Inv-loop μ-loop
 mul-if1 c = search needs
 
--- src/tests.rt:39:12
 shared-slice-read-if1 : tie.Need-shared-slice-read-if1 Inv-loop μ-loop
 shared-slice-read-if1 c = search needs
 
--- src/tests.rt:40:13
 returns : tie.Need-returns Inv-loop μ-loop
 returns c =
     let l = c .before .before .before in
     let a = l .before .args in
     sym (member-hit (a .numbers .now) (l .loop .i) (omega arith) (a .n) (c .if1 .taken)) ∙ l .loop .inv
 
--- src/tests.rt:42:9
 add-i : tie.Need-add-i Inv-loop μ-loop
 add-i c = search needs
 
--- src/tests.rt:38:5
 loop-less : tie.Need-loop-less Inv-loop μ-loop
 loop-less c = search needs
 
--- src/tests.rt:38:5
 loop-again : tie.Need-loop-again Inv-loop μ-loop
 loop-again c =
     let l = c .before .before .before in
     let a = l .before .args in
     member-miss (a .numbers .now) (l .loop .i) (omega arith) (a .n) (c .if1 .left) ∙ l .loop .inv
 
--- src/tests.rt:34:1
 returns-2 : tie.Need-returns-2 Inv-loop μ-loop
 returns-2 c =
     let l = c .before in

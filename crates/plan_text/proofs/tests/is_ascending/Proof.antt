@@ -1,15 +1,13 @@
+-- `plan_text::is_ascending` meets its contract. The loop's invariant: the numbers from the last one passed on ascend exactly when all do.
 use borrow.Author.Needs.{needs}
-use mathlib.Core.Path.{_≡_, refl, sym, ap, _∙_}
-use mathlib.Core.Bool.{true, false}
-use Prim.Native.Nat.{ℕ, _+_, _-_, _≤_, _<_}
+use mathlib.Core.Path.{_≡_, sym, _∙_}
+use Prim.Native.Nat.{_-_, _≤_}
 use native.Mathlib.Omega.{arith}
-use lib.ListN.{length, drop, getD}
+use lib.ListN.{length, drop}
 use Rattle.plan_text.specs.Fill.{ascending}
 use Rattle.plan_text.specs.Tests.{ascending-go, ascending-no, ascending-end}
 use Rattle.plan_text.proofs.tests.is_ascending.Statement.{statement}
 use Rattle.plan_text.proofs.tests.is_ascending.Tie as tie
-use Rattle.plan_text.proofs.tests.is_ascending.Reads as reads
-use Rattle.plan_text.proofs.tests.is_ascending.Lts as lts
 
 abbrev Inv-loop : tie.InvT-loop
 Inv-loop numbers i₀ i = (1 ≤ i) × (ascending (drop (i - 1) numbers) ≡ ascending numbers)
@@ -17,51 +15,40 @@ Inv-loop numbers i₀ i = (1 ≤ i) × (ascending (drop (i - 1) numbers) ≡ asc
 abbrev μ-loop : tie.MeasureT-loop
 μ-loop numbers i₀ i = length numbers - i
 
--- src/tests.rt:12:5
 loop-holds : tie.Need-loop-holds Inv-loop μ-loop
 loop-holds c = search needs
 
--- src/tests.rt:13:12
 mul-if1 : tie.Need-mul-if1 Inv-loop μ-loop
 mul-if1 c = search needs
 
--- src/tests.rt:13:12
 shared-slice-read-if1 : tie.Need-shared-slice-read-if1 Inv-loop μ-loop
 shared-slice-read-if1 c = search needs
 
--- src/tests.rt:13:34
 sub-if1 : tie.Need-sub-if1 Inv-loop μ-loop
 sub-if1 c = search needs
 
--- src/tests.rt:13:26
 mul-if1-2 : tie.Need-mul-if1-2 Inv-loop μ-loop
 mul-if1-2 c = search needs
 
--- src/tests.rt:13:26
 shared-slice-read-if1-2 : tie.Need-shared-slice-read-if1-2 Inv-loop μ-loop
 shared-slice-read-if1-2 c = search needs
 
--- src/tests.rt:14:13
 returns : tie.Need-returns Inv-loop μ-loop
 returns c =
     let l = c .before .before .before .before in
-    sym (ascending-no (l .before .args .numbers .now) (l .loop .i) (omega arith) (omega arith) (c .if1 .taken)) ∙ l .loop .inv .1
+    sym (ascending-no (l .before .args .numbers .now) (l .loop .i) (omega arith) (omega arith) (omega arith)) ∙ l .loop .inv .1
 
--- src/tests.rt:16:9
 add-i : tie.Need-add-i Inv-loop μ-loop
 add-i c = search needs
 
--- src/tests.rt:12:5
 loop-less : tie.Need-loop-less Inv-loop μ-loop
 loop-less c = search needs
 
--- src/tests.rt:12:5
 loop-again : tie.Need-loop-again Inv-loop μ-loop
 loop-again c =
     let l = c .before .before .before .before in
-    (search needs, ascending-go (l .before .args .numbers .now) (l .loop .i) (omega arith) (omega arith) (c .if1 .left) ∙ l .loop .inv .1)
+    (search needs, ascending-go (l .before .args .numbers .now) (l .loop .i) (omega arith) (omega arith) (omega arith) ∙ l .loop .inv .1)
 
--- src/tests.rt:8:1
 returns-2 : tie.Need-returns-2 Inv-loop μ-loop
 returns-2 c =
     let l = c .before in
