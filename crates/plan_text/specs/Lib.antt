@@ -1,0 +1,11 @@
+pub mod Grammar
+pub mod Parse
+pub mod Laws
+pub mod Means
+pub mod Fill
+pub mod Tests
+pub mod Turns
+pub mod Tested
+pub mod Whole
+pub mod Print
+pub mod Examples
