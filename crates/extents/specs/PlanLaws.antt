@@ -10,11 +10,11 @@ use lib.Dec.{ltb, leb, eqb}
 use borrow.Author.Tests.{ltb-true, ltb-false, leb-true, leb-false, lt-ltb, le-ltb, le-leb, lt-leb}
 use Rattle.config.specs.Pages.{count}
 use Rattle.meta.specs.declared.ZeroExtent.{ZeroExtent}
-use Rattle.meta.specs.Runs.{run, normalized}
+use Rattle.meta.specs.Runs.{run, numbersOf, normalized}
 use Rattle.runs.specs.Sets.{within, covers, add, maximal, without}
 use Rattle.runs.specs.SetLaws.{split, within-has, maximal-covers, maximal-alike, maximal-self, maximal-again, maximal-empty, maximal-normalized, without-alike, without-covers}
 use Rattle.runs.specs.Flat.{runsIn, Out, out, held, padded, laid, at, upto}
-use Rattle.runs.specs.FlatLaws.{upto-more, upto-none, length-runsIn, held-count, held-runs, held-normalized, add-count, remove-count, laid-cleared}
+use Rattle.runs.specs.FlatLaws.{upto-more, upto-none, length-runsIn, held-count, held-runs, held-normalized, add-count, remove-count, laid-cleared, laid-runs}
 use Rattle.extents.specs.Plan.{Answer, tooMany, kept, pick, keepIf, optional, below, additions, addOne, addEach, removeEach, remain, plan}
 use Rattle.extents.specs.Outcome.{Outcome, outcome, planned}
 use Rattle.extents.specs.Steps.{norm, told, Ready, Added, Left}
@@ -280,6 +280,13 @@ tally-most end d v = omega (arith, below-most end (take d v), length-take d v)
 
 -- ## The answer and the list at the end
 
+abbrev number : Planned → ℕ
+number (Runs k) = 0
+number TooMany = 1
+
+runs-same : {k m : ℕ} → Runs k ≡ Runs m → k ≡ m
+runs-same e = cc
+
 module _ (n r : ℕ) (w : List ℕ) where
   pub ends-not : 1024 < r → planned n (told 1024 r w) ≡ outcome TooMany (padded n (take 0 w))
   unfolding planned
@@ -290,6 +297,20 @@ module _ (n r : ℕ) (w : List ℕ) where
   ends-runs h k =
       let e : laid n (runsIn r w) ≡ out (padded n (take (r * 2) w)) r = sym (laid-cleared n r w (runsIn r w) k refl) in
       rw (told-kept 1024 r w h) (λ i. outcome (Runs (e i .count)) (e i .work))
+
+-- and what a caller learns from them
+pub planned-runs : (n k : ℕ) (w : List ℕ) (a : Answer) → outcome (Runs k) w ≡ planned n a → a ≡ kept (runsIn k w)
+unfolding planned
+planned-runs n k w tooMany e = let z : _≡_ {A = ℕ} 0 1 = ap (λ (o : Outcome). number (o .answer)) e in absurd (omega arith)
+planned-runs n k w (kept l) e =
+    let c : k ≡ length l = runs-same (ap (λ (o : Outcome). o .answer) e) in
+    let f : w ≡ padded n (numbersOf l) = ap (λ (o : Outcome). o .work) e in
+    ap kept (sym (rw (f, c) (laid-runs n l)))
+
+pub planned-not : (n : ℕ) (w : List ℕ) (a : Answer) → outcome TooMany w ≡ planned n a → (a ≡ tooMany) × (w ≡ padded n [])
+unfolding planned
+planned-not n w tooMany e = (refl, ap (λ (o : Outcome). o .work) e)
+planned-not n w (kept l) e = let z : _≡_ {A = ℕ} 1 0 = ap (λ (o : Outcome). number (o .answer)) e in absurd (omega arith)
 
 -- ## What the plan keeps
 

@@ -428,6 +428,15 @@ laid-cleared n r w l h e =
     let c : length l ≡ r = ap length (sym e) ∙ length-runsIn w r h in
     rw (t, c)
 
+-- and are read again
+pub laid-runs : (n : ℕ) (l : List ZeroExtent) → runsIn (length l) (padded n (numbersOf l)) ≡ l
+unfolding runsIn padded
+laid-runs n l = runs-numbers l (replicate (n - length (numbersOf l)) 0)
+
+pub padded-none : (n : ℕ) → padded n [] ≡ replicate n 0
+unfolding padded
+padded-none n = let e : n - 0 ≡ n = omega arith in rw e
+
 -- ## Runs copied in, one by one
 
 -- the run x has been added to the runs l, and the rest is to come

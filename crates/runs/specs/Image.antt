@@ -39,6 +39,10 @@ pub image-all : (n : ℕ) (mem : List ℕ) → n ≤ 1024 → 160 + n * 16 ≤ l
 unfolding imageCount
 image-all n mem h k = omega arith
 
+pub image-whole : (n : ℕ) (mem : List ℕ) → n ≤ 1024 → 160 + n * 16 ≤ length mem → imageRuns n mem ≡ runsOf (wordsIn (n * 2) (drop 160 mem))
+unfolding imageNumbers
+image-whole n mem h k = rw (image-all n mem h k)
+
 pub image-upto : (n : ℕ) (mem : List ℕ) → upto (imageNumbers n mem) 0 (imageCount n mem) ≡ imageRuns n mem
 unfolding runsIn
 image-upto n mem =
