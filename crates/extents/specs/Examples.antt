@@ -5,7 +5,7 @@ use mathlib.Core.List.{List, [], _∷_}
 use Rattle.config.specs.Pages.{count}
 use Rattle.meta.specs.declared.ZeroExtent.{ZeroExtent}
 use Rattle.meta.specs.Runs.{run}
-use Rattle.runs.specs.Sets.{within, merge, insert, add, maximal, around, without}
+use Rattle.runs.specs.Sets.{within, merge, insert, add, around}
 use Rattle.extents.specs.Plan.{Answer, tooMany, kept, additions, addOne, remain, plan}
 
 -- n runs of one page each, a page apart, from page a on

@@ -1,5 +1,5 @@
 -- The laws of the plan: that it depends on the set alone, and what each turn of the code makes of it.
-use Prim.Native.Nat.{ℕ, zero, suc, _+_, _-_, _*_, _≤_, _<_, min}
+use Prim.Native.Nat.{ℕ, suc, _+_, _*_, _≤_, _<_, min}
 use mathlib.Core.Path.{_≡_, refl, sym, ap, _∙_}
 use mathlib.Core.Bool.{Bool, true, false, not, _&&_, _||_, and-true, and-false, or-assoc, or-comm}
 use mathlib.Core.List.{List, [], _∷_, _++_}
@@ -13,9 +13,9 @@ use Rattle.meta.specs.declared.ZeroExtent.{ZeroExtent}
 use Rattle.meta.specs.Runs.{run, numbersOf, normalized}
 use Rattle.runs.specs.Sets.{within, covers, add, maximal, without}
 use Rattle.runs.specs.SetLaws.{split, within-has, maximal-covers, maximal-alike, maximal-self, maximal-again, maximal-empty, maximal-normalized, without-alike, without-covers}
-use Rattle.runs.specs.Flat.{runsIn, Out, out, held, padded, laid, at, upto}
+use Rattle.runs.specs.Flat.{runsIn, out, held, padded, laid, at, upto}
 use Rattle.runs.specs.FlatLaws.{upto-more, upto-none, length-runsIn, held-count, held-runs, held-normalized, add-count, remove-count, laid-cleared, laid-runs}
-use Rattle.extents.specs.Plan.{Answer, tooMany, kept, pick, keepIf, optional, below, additions, addOne, addEach, removeEach, remain, plan}
+use Rattle.extents.specs.Plan.{Answer, tooMany, kept, pick, below, additions, addOne, addEach, removeEach, remain, plan}
 use Rattle.extents.specs.Outcome.{Outcome, outcome, planned}
 use Rattle.extents.specs.Steps.{norm, told, Ready, Added, Left}
 use Rattle.extents.specs.declared.Planned.{Planned}

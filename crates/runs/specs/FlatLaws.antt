@@ -6,14 +6,14 @@ use mathlib.Core.List.{List, [], _∷_, _++_, append-assoc, append-nil}
 use mathlib.Core.Logic.{⊎-elim}
 use native.Mathlib.Omega.{arith}
 use lib.Dec.{ltb}
-use lib.ListN.{length, getD, set, take, drop, length-set, length-append, length-take, length-drop, take-append-drop, replicate, length-replicate}
-use lib.Seq.{getD-set-same, getD-set-other, set-getD, drop-set-lt, take-set-le, drop-drop, drop-cons, take-all, take-at, drop-at, take-take, set-split, take-suc, take-suc-set}
+use lib.ListN.{length, getD, set, take, drop, length-set, length-append, length-take, take-append-drop, replicate, length-replicate}
+use lib.Seq.{getD-set-same, getD-set-other, set-getD, drop-set-lt, drop-cons, take-all, take-suc-set}
 use borrow.Author.Tests.{lt-ltb, le-ltb}
 use Rattle.meta.specs.declared.ZeroExtent.{ZeroExtent}
 use Rattle.meta.specs.Runs.{run, runsOf, numbersOf, normalized}
 use Rattle.runs.specs.Sets.{within, covers, join, merge, insert, add, maximal, without, piece, remove}
-use Rattle.runs.specs.Members.{From, le-or-lt, merge-nil, merge-stop, merge-join, insert-nil, insert-skip, insert-here, remove-nil, remove-skip, remove-not, remove-here, add-none, add-some, add-length, remove-length}
-use Rattle.runs.specs.SetLaws.{split, covers-append, maximal-covers, maximal-normalized, maximal-alike, normalized-from, from-normalized, maximal-self, maximal-more, maximal-without, maximal-less}
+use Rattle.runs.specs.Members.{From, le-or-lt, merge-nil, merge-stop, merge-join, insert-nil, insert-skip, insert-here, remove-nil, remove-skip, remove-not, remove-here, add-length, remove-length}
+use Rattle.runs.specs.SetLaws.{covers-append, maximal-covers, maximal-normalized, maximal-alike, normalized-from, maximal-self, maximal-more, maximal-without, maximal-less}
 use Rattle.runs.specs.Flat.{runsIn, Out, out, held, padded, laid, at, put, seg, upto, write, place}
 
 pub length-put : (w : List ℕ) (i : ℕ) (x : ZeroExtent) → length (put w i x) ≡ length w

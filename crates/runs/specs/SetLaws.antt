@@ -1,5 +1,5 @@
 -- The laws of sets of pages: maximal runs are normalized, cover the same pages, and are the only list that does.
-use Prim.Native.Nat.{ℕ, zero, suc, _+_, _≤_, _<_}
+use Prim.Native.Nat.{ℕ, suc, _≤_}
 use mathlib.Core.Path.{_≡_, refl, sym, ap, _∙_}
 use mathlib.Core.Bool.{Bool, true, false, not, _&&_, _||_, true≢false, and-true, and-false}
 use mathlib.Core.List.{List, [], _∷_, _++_}
@@ -7,10 +7,10 @@ use mathlib.Core.Logic.{_⊎_, inl, inr, ⊎-elim, _↔_}
 use native.Mathlib.Omega.{arith}
 use lib.ListN.{length}
 use lib.Dec.{ltb, leb, eqb}
-use borrow.Author.Tests.{ltb-true, ltb-false, leb-true, leb-false, eqb-true, eqb-false, lt-ltb, le-ltb, le-leb, lt-leb, eq-eqb, ne-eqb}
+use borrow.Author.Tests.{ltb-true, leb-true, eqb-true, eqb-false, lt-ltb, le-leb}
 use Rattle.meta.specs.declared.ZeroExtent.{ZeroExtent}
-use Rattle.meta.specs.Runs.{run, normalized}
-use Rattle.runs.specs.Sets.{within, covers, add, maximal, pick, around, without, remove}
+use Rattle.meta.specs.Runs.{normalized}
+use Rattle.runs.specs.Sets.{within, covers, maximal, around, without, remove}
 use Rattle.runs.specs.Members.{Has, In, From, le-or-lt, iff-trans, unique, add-from, add-in, add-none, add-length, remove-from, remove-in, remove-length}
 
 -- a case split that keeps the equation

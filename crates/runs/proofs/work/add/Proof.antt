@@ -1,4 +1,3 @@
-use Prim.Native.Nat.{ℕ, _+_, _*_, _≤_, _<_}
 use mathlib.Core.Path.{_≡_}
 use mathlib.Core.List.{_∷_}
 use native.Mathlib.Omega.{arith}

@@ -1,9 +1,8 @@
-use Prim.Native.Nat.{ℕ, _+_, _-_, _≤_, _<_}
-use mathlib.Core.Path.{_≡_, refl, sym, ap, _∙_}
-use mathlib.Core.List.{_∷_}
+use Prim.Native.Nat.{_-_, _≤_}
+use mathlib.Core.Path.{_≡_}
 use native.Mathlib.Omega.{arith}
 use lib.ListN.{length}
-use Rattle.runs.specs.Flat.{at, put, out, write, upto}
+use Rattle.runs.specs.Flat.{write, upto}
 use Rattle.runs.specs.FlatLaws.{close-step, close-last}
 use borrow.Author.Needs.{needs}
 use Rattle.runs.proofs.work.close.Statement.{statement}

@@ -1,12 +1,10 @@
-use Prim.Native.Nat.{ℕ, _+_, _-_, _≤_, _<_}
-use mathlib.Core.Path.{_≡_, refl, sym, ap, _∙_}
+use Prim.Native.Nat.{_+_}
 use mathlib.Core.List.{_∷_}
 use native.Mathlib.Omega.{arith}
-use Rattle.meta.specs.declared.ZeroExtent.{ZeroExtent}
 use Rattle.meta.specs.Runs.{run}
 use Rattle.runs.specs.Sets.{piece}
 use Rattle.runs.specs.Members.{piece-none, piece-some}
-use Rattle.runs.specs.Flat.{put, out, write, upto}
+use Rattle.runs.specs.Flat.{put, upto}
 use Rattle.runs.specs.FlatLaws.{write-same, write-cons, put-step, upto-put}
 use borrow.Author.Needs.{needs}
 use Rattle.runs.proofs.work.cut.Statement.{statement}

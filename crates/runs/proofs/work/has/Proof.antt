@@ -1,6 +1,5 @@
 use borrow.Author.Tests.{lt-leb, le-leb}
 use Rattle.runs.specs.Sets.{within}
-use borrow.Author.Needs.{needs}
 use Rattle.runs.proofs.work.has.Statement.{statement}
 use Rattle.runs.proofs.work.has.Tie as tie
 

@@ -1,11 +1,9 @@
-use Prim.Native.Nat.{ℕ, _+_, _-_, _≤_, _<_}
-use mathlib.Core.Path.{_≡_, refl, sym, ap, _∙_}
-use mathlib.Core.List.{_∷_}
+use Prim.Native.Nat.{_-_, _≤_}
+use mathlib.Core.Path.{_≡_}
 use native.Mathlib.Omega.{arith}
-use lib.ListN.{length}
 use Rattle.meta.specs.Runs.{run}
-use Rattle.runs.specs.Sets.{insert, merge}
-use Rattle.runs.specs.Flat.{at, put, out, write, upto}
+use Rattle.runs.specs.Sets.{merge}
+use Rattle.runs.specs.Flat.{upto}
 use Rattle.runs.specs.FlatLaws.{meet-step, meet-here, meet-last}
 use borrow.Author.Needs.{needs}
 use Rattle.runs.proofs.work.meet.Statement.{statement}

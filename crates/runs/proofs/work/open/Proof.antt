@@ -1,10 +1,10 @@
-use Prim.Native.Nat.{ℕ, _+_, _-_, _≤_, _<_}
-use mathlib.Core.Path.{_≡_, refl, sym, ap, _∙_}
+use Prim.Native.Nat.{_-_, _≤_}
+use mathlib.Core.Path.{_≡_}
 use mathlib.Core.List.{_∷_}
 use native.Mathlib.Omega.{arith}
 use lib.ListN.{length}
-use Rattle.runs.specs.Flat.{at, put, out, write, upto}
-use Rattle.runs.specs.FlatLaws.{length-put, open-step, open-last}
+use Rattle.runs.specs.Flat.{write, upto}
+use Rattle.runs.specs.FlatLaws.{open-step, open-last}
 use borrow.Author.Needs.{needs}
 use Rattle.runs.proofs.work.open.Statement.{statement}
 use Rattle.runs.proofs.work.open.Tie as tie

@@ -1,4 +1,4 @@
-use Prim.Native.Nat.{ℕ, _+_, _*_, _≤_, _<_}
+use Prim.Native.Nat.{_<_}
 use native.Mathlib.Omega.{arith}
 use Rattle.runs.specs.FlatLaws.{walk-normalized, held-remove, place-le, page-at, page-none, page-before, page-behind, page-here}
 use borrow.Author.Needs.{needs}
