@@ -1,5 +1,7 @@
 //! The time of the library divided by the time of the original, for the same work in the same run.
 
+mod plan;
+
 use std::hint::black_box;
 use std::time::{Duration, Instant};
 
@@ -38,6 +40,10 @@ fn main() {
     }
     println!("library / original, median of {ROUNDS} alternating rounds (library, original)");
     BENCHES.iter().for_each(report);
+    for (recorded, dirty) in [(64, 64), (1_024, 1_024), (4_096, 4_096)] {
+        plan::report(recorded, dirty);
+    }
+    plan::report_moves(4_096);
 }
 
 fn report(bench: &Bench) {

@@ -1,9 +1,16 @@
-//! Superblocks made from a recipe and an index, answered by the library and by the original, and compared.
+//! Superblocks made from a recipe and an index, answered by the library and by the original, and compared; and plans of
+//! commits, from a seed or made by hand.
 //!
 //! Where the original's files are not at hand, its recorded answers stand for it.
 
 pub mod answer;
 pub mod block;
+pub mod commit;
+pub mod malformed;
+pub mod plan;
+pub mod plan_case;
+pub mod plan_row;
+pub mod plan_text;
 pub mod prng;
 pub mod recipe;
 pub mod recorded;

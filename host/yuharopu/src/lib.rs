@@ -31,6 +31,20 @@ mod c {
             runs: *const u64,
             runs_len: usize,
         ) -> u64;
+        pub fn yuharopu_plan(
+            work: *mut u64,
+            work_len: usize,
+            extents: *const u64,
+            extents_len: usize,
+            old_size: u64,
+            new_size: u64,
+            record: *const u64,
+            record_len: usize,
+            dirty: *const u64,
+            dirty_len: usize,
+            answer: *mut u64,
+            answer_len: usize,
+        ) -> u64;
     }
 }
 
@@ -90,6 +104,34 @@ pub fn superblock_store(mem: &mut [u8], fields: &[u64], runs: &[u64]) -> u64 {
             fields.len(),
             runs.as_ptr(),
             runs.len(),
+        )
+    }
+}
+
+pub fn plan(
+    work: &mut [u64],
+    extents: &[u64],
+    old_size: u64,
+    new_size: u64,
+    record: &[u64],
+    dirty: &[u64],
+    answer: &mut [u64],
+) -> u64 {
+    // SAFETY: see `fnv1a64`.
+    unsafe {
+        c::yuharopu_plan(
+            work.as_mut_ptr(),
+            work.len(),
+            extents.as_ptr(),
+            extents.len(),
+            old_size,
+            new_size,
+            record.as_ptr(),
+            record.len(),
+            dirty.as_ptr(),
+            dirty.len(),
+            answer.as_mut_ptr(),
+            answer.len(),
         )
     }
 }
