@@ -1,6 +1,7 @@
 // The runs of an image, in its bytes.
 use crate::work;
 use meta::ZeroExtent;
+use meta::read_word;
 ghost use mathlib.Core.Path.{_≡_};
 ghost use Prim.Native.Nat.{_+_, _-_, _*_, _/_, _≤_, _<_, min};
 ghost use lib.ListN.{length};
@@ -14,34 +15,13 @@ const RUNS_OFFSET: usize = 160;
 
 const MAX_RUNS: usize = 1_024;
 
-fn wide(b: u8) -> u64
-    ensures { λ r. ⌜ (r ≡ b) × (r < 256) ⌝ }
-{
-    b as u64
-}
-
-// The little-endian number at a byte offset.
-fn word(mem: &[u8], at: usize) -> u64
-    requires { ⌜ at + 8 ≤ length (now mem) ⌝ }
-    ensures { λ r. ⌜ r ≡ wordAt at (now (mem .entry)) ⌝ }
-{
-    wide(mem[at])
-        + wide(mem[at + 1]) * 256
-        + wide(mem[at + 2]) * 65_536
-        + wide(mem[at + 3]) * 16_777_216
-        + wide(mem[at + 4]) * 4_294_967_296
-        + wide(mem[at + 5]) * 1_099_511_627_776
-        + wide(mem[at + 6]) * 281_474_976_710_656
-        + wide(mem[at + 7]) * 72_057_594_037_927_936
-}
-
 fn read(mem: &[u8], i: usize) -> ZeroExtent
     requires { ⌜ 176 + i * 16 ≤ length (now mem) ⌝ }
     ensures { λ r. ⌜ r ≡ run (wordAt (160 + i * 16) (now (mem .entry))) (wordAt (168 + i * 16) (now (mem .entry))) ⌝ }
 {
     ZeroExtent {
-        start: word(mem, RUNS_OFFSET + i * 16),
-        end: word(mem, RUNS_OFFSET + 8 + i * 16),
+        start: read_word(mem, RUNS_OFFSET + i * 16),
+        end: read_word(mem, RUNS_OFFSET + 8 + i * 16),
     }
 }
 

@@ -2,26 +2,26 @@ use borrow.Author.Needs.{needs}
 use Rattle.runs.proofs.image.read.Statement.{statement}
 use Rattle.runs.proofs.image.read.Tie as tie
 
-mul-word : tie.Need-mul-word
-mul-word c = search needs
+mul-read-word : tie.Need-mul-read-word
+mul-read-word c = search needs
 
-add-word : tie.Need-add-word
-add-word c = search needs
+add-read-word : tie.Need-add-read-word
+add-read-word c = search needs
 
-word-requires : tie.Need-word-requires
-word-requires c κs = search needs
+read-word-requires : tie.Need-read-word-requires
+read-word-requires c κs = search needs
 
-add-word-2 : tie.Need-add-word-2
-add-word-2 c = search needs
+add-read-word-2 : tie.Need-add-read-word-2
+add-read-word-2 c = search needs
 
-mul-word-2 : tie.Need-mul-word-2
-mul-word-2 c = search needs
+mul-read-word-2 : tie.Need-mul-read-word-2
+mul-read-word-2 c = search needs
 
-add-word-3 : tie.Need-add-word-3
-add-word-3 c = search needs
+add-read-word-3 : tie.Need-add-read-word-3
+add-read-word-3 c = search needs
 
-word-requires-2 : tie.Need-word-requires-2
-word-requires-2 c κs = search needs
+read-word-requires-2 : tie.Need-read-word-requires-2
+read-word-requires-2 c κs = search needs
 
 returns : tie.Need-returns
 returns c =
@@ -32,11 +32,11 @@ pub read-spec : {M : Type 1} → statement M
 read-spec =
     tie.close
     (tie.spec
-    mul-word
-    add-word
-    word-requires
-    add-word-2
-    mul-word-2
-    add-word-3
-    word-requires-2
+    mul-read-word
+    add-read-word
+    read-word-requires
+    add-read-word-2
+    mul-read-word-2
+    add-read-word-3
+    read-word-requires-2
     returns)
