@@ -1,4 +1,4 @@
-// A text is read as if a line feed stood behind its end.
+// A text is read as if a line feed stood behind its end, so that its last line may lack its own.
 ghost use mathlib.Core.Path.{_≡_};
 ghost use Prim.Native.Nat.{_-_, _≤_};
 ghost use lib.ListN.{length};
@@ -39,7 +39,7 @@ fn is_at(text: &[u8], at: usize, byte: u8) -> bool
     false
 }
 
-// The place behind `word`. A text is at most as long as here, so that no place wraps.
+// The place behind `word`. The bound on the text keeps the place behind its last line feed from wrapping.
 pub fn skip(text: &[u8], at: usize, word: &[u8]) -> Place
     requires { ⌜ length (now text) ≤ 65536 ⌝ }
     ensures { λ r. ⌜ placeIn (now (text .entry)) r ≡ skipWord (now (word .entry)) (from (now (text .entry)) at) ⌝ }

@@ -9,3 +9,4 @@ pub mod Tested
 pub mod Whole
 pub mod Print
 pub mod Examples
+pub mod Callers

@@ -227,3 +227,7 @@ malformed-or-accepted t = cond-decided (leb (length t) 65536) _ _
 
 pub malformed-is-not-well-formed : (t : List ℕ) → parse t .parsed ≡ Parsed.Malformed → (i : Input) → WellFormed t i → ⊥
 malformed-is-not-well-formed t m i w = never-accepted (parse t) i m (well-formed-is-accepted t i w)
+
+-- a text means one thing
+pub one-meaning : (t : List ℕ) (i j : Input) → WellFormed t i → WellFormed t j → i ≡ j
+one-meaning t i j v w = accepted-same i j (sym (well-formed-is-accepted t i v) ∙ well-formed-is-accepted t j w)

@@ -23,7 +23,7 @@ pub record Kind {A : Type 0} (fill : Section A → List ℕ → Filled) (flat : 
 never-filled {ℓ} : {X : Type ℓ} {n : ℕ} {r o p : List ℕ} → filled n r o ≡ torn p → X
 never-filled e = let z : _≡_ {A = ℕ} 0 1 = cc in absurd (omega arith)
 
-front : (l : List ℕ) (out : List ℕ) → length l ≤ length out → take (length l) (sets out 0 l) ≡ l
+pub front : (l : List ℕ) (out : List ℕ) → length l ≤ length out → take (length l) (sets out 0 l) ≡ l
 front l out h =
     let k : 0 + length l ≤ length out = omega arith in
     ap (take (length l)) (sets-eq l out 0 k) ∙ take-at l (drop (0 + length l) out) (length l) refl
