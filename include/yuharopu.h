@@ -52,7 +52,9 @@ uint64_t yuharopu_superblock_store(uint8_t *mem, size_t mem_len, const uint64_t 
 /* The zero runs of an image after a commit that takes its size from old_size to new_size bytes. `extents` are the
  * image's runs and `record` the runs that the update recorded, in order, two numbers a run, start then end; `dirty` are
  * the numbers of the dirty pages. 0: answer[0] is the number of runs, and they stand in front of `work`, zeros behind
- * them. 31: too many runs, and `work` is zeros. 35, nothing changed: `work` has fewer than 2 x (1,025 + 2 x dirty_len)
+ * them. 31: too many runs, `work` is zeros and `answer` stays. Any lists are taken: the image's runs count as the set
+ * of their pages, an empty run adds nothing, an odd last number is no run, and a dirty page makes room in the limit as
+ * often as it is listed. 35, nothing changed: `work` has fewer than 2 x (1,025 + 2 x dirty_len)
  * numbers, `extents` more than 1,024 runs, or `answer` no place. */
 uint64_t yuharopu_plan(uint64_t *work, size_t work_len, const uint64_t *extents, size_t extents_len, uint64_t old_size,
                        uint64_t new_size, const uint64_t *record, size_t record_len, const uint64_t *dirty,
