@@ -4,10 +4,11 @@ use mathlib.Core.Path.{_≡_}
 use mathlib.Core.Bool.{true}
 use mathlib.Core.List.{List, []}
 use lib.ListN.{length}
+use Rattle.config.specs.declared.refusal.Refusal.the-variants.{ZeroExtentLimitExceeded}
 use Rattle.meta.specs.Runs.{numbersOf, normalized}
 use Rattle.runs.specs.Flat.{runsIn, padded}
 use Rattle.extents.specs.declared.Planned.{Planned}
-use Rattle.extents.specs.declared.Planned.the-variants.{Runs, TooMany}
+use Rattle.extents.specs.declared.Planned.the-variants.{Runs, Refused}
 use Rattle.extents.specs.Plan.{Answer, tooMany, kept}
 
 pub record Outcome : Type 0 where
@@ -17,9 +18,9 @@ pub record Outcome : Type 0 where
 abbrev pub outcome : Planned → List ℕ → Outcome
 outcome r w = record { answer = r; work = w }
 
--- a list of n numbers: the runs, and zeros in its unused part, or all of it zeros
+-- a list of n numbers: the runs, and zeros in its unused part; or 31, "too many zero runs", and all of it zeros
 unfoldable pub planned : ℕ → Answer → Outcome
-planned n tooMany = outcome TooMany (padded n [])
+planned n tooMany = outcome (Refused ZeroExtentLimitExceeded) (padded n [])
 planned n (kept l) = outcome (Runs (length l)) (padded n (numbersOf l))
 
 -- what the plan on a list of numbers is lent: at most 1,024 normalized runs in front, and room for d dirty pages.

@@ -9,6 +9,8 @@ use lib.Seq.{drop-cons, getD-take, take-all, take-length}
 use lib.Dec.{ltb, leb, eqb}
 use borrow.Author.Tests.{ltb-true, ltb-false, leb-true, leb-false, lt-ltb, le-ltb, le-leb, lt-leb}
 use Rattle.config.specs.Pages.{count}
+use Rattle.config.specs.declared.refusal.Refusal.{Refusal}
+use Rattle.config.specs.declared.refusal.Refusal.the-variants.{ZeroExtentLimitExceeded}
 use Rattle.meta.specs.declared.ZeroExtent.{ZeroExtent}
 use Rattle.meta.specs.Runs.{run, numbersOf, normalized}
 use Rattle.runs.specs.Sets.{within, covers, add, maximal, without}
@@ -19,7 +21,7 @@ use Rattle.extents.specs.Plan.{Answer, tooMany, kept, pick, below, addit
 use Rattle.extents.specs.Outcome.{Outcome, outcome, planned}
 use Rattle.extents.specs.Steps.{norm, told, Ready, Added, Left}
 use Rattle.extents.specs.declared.Planned.{Planned}
-use Rattle.extents.specs.declared.Planned.the-variants.{Runs, TooMany}
+use Rattle.extents.specs.declared.Planned.the-variants.{Runs, Refused}
 
 pub told-kept : (limit r : ℕ) (w : List ℕ) → r ≤ limit → told limit r w ≡ kept (runsIn r w)
 unfolding told
@@ -282,13 +284,16 @@ tally-most end d v = omega (arith, below-most end (take d v), length-take d v)
 
 abbrev number : Planned → ℕ
 number (Runs k) = 0
-number TooMany = 1
+number (Refused r) = 1
 
 runs-same : {k m : ℕ} → Runs k ≡ Runs m → k ≡ m
 runs-same e = cc
 
+refused-same : {r q : Refusal} → Refused r ≡ Refused q → r ≡ q
+refused-same e = cc
+
 module _ (n r : ℕ) (w : List ℕ) where
-  pub ends-not : 1024 < r → planned n (told 1024 r w) ≡ outcome TooMany (padded n (take 0 w))
+  pub ends-not : 1024 < r → planned n (told 1024 r w) ≡ outcome (Refused ZeroExtentLimitExceeded) (padded n (take 0 w))
   unfolding planned
   ends-not h = rw (told-not 1024 r w h)
 
@@ -307,10 +312,10 @@ planned-runs n k w (kept l) e =
     let f : w ≡ padded n (numbersOf l) = ap (λ (o : Outcome). o .work) e in
     ap kept (sym (rw (f, c) (laid-runs n l)))
 
-pub planned-not : (n : ℕ) (w : List ℕ) (a : Answer) → outcome TooMany w ≡ planned n a → (a ≡ tooMany) × (w ≡ padded n [])
+pub planned-not : (n : ℕ) (r : Refusal) (w : List ℕ) (a : Answer) → outcome (Refused r) w ≡ planned n a → (a ≡ tooMany) × (r ≡ ZeroExtentLimitExceeded) × (w ≡ padded n [])
 unfolding planned
-planned-not n w tooMany e = (refl, ap (λ (o : Outcome). o .work) e)
-planned-not n w (kept l) e = let z : _≡_ {A = ℕ} 1 0 = ap (λ (o : Outcome). number (o .answer)) e in absurd (omega arith)
+planned-not n r w tooMany e = (refl, refused-same (ap (λ (o : Outcome). o .answer) e), ap (λ (o : Outcome). o .work) e)
+planned-not n r w (kept l) e = let z : _≡_ {A = ℕ} 1 0 = ap (λ (o : Outcome). number (o .answer)) e in absurd (omega arith)
 
 -- ## What the plan keeps
 

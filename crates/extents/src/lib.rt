@@ -1,4 +1,5 @@
 // The plan of a commit: which zero runs the image has after it, or that they are too many.
+use config::Refusal;
 ghost use mathlib.Core.Path.{_≡_};
 ghost use mathlib.Core.Bool.{true};
 ghost use Prim.Native.Nat.{_+_, _*_, _≤_, _<_};
@@ -17,7 +18,7 @@ pub const MAX_ZERO_EXTENTS: usize = 1_024;
 // How many zero runs the image has, which stand in front of the work list; or 31.
 pub enum Planned {
     Runs(usize),
-    TooMany,
+    Refused(Refusal),
 }
 
 fn is_below(page: u64, end: u64) -> usize
@@ -144,7 +145,7 @@ fn finish(work: &mut [u64], count: usize) -> Planned
 {
     if MAX_ZERO_EXTENTS < count {
         runs::clear(work, 0);
-        return Planned::TooMany;
+        return Planned::Refused(Refusal::ZeroExtentLimitExceeded);
     }
     runs::clear(work, count * 2);
     Planned::Runs(count)
