@@ -17,7 +17,7 @@ use Rattle.meta.specs.Block.{numbersOf, ofNumbers, fresh, storeIn}
 use Rattle.meta.specs.Load.{load}
 use Rattle.runs.specs.Flat.{runsIn}
 use Rattle.extents.specs.declared.Planned.{Planned}
-use Rattle.extents.specs.declared.Planned.the-variants.{Runs, TooMany}
+use Rattle.extents.specs.declared.Planned.the-variants.{Runs, Refused as PlanRefused}
 use Rattle.extents.specs.Plan.{plan}
 use Rattle.extents.specs.Outcome.{Outcome as Outcome′, outcome as outcome′, planned as laid}
 
@@ -99,7 +99,7 @@ pickPlans false a b = b
 
 abbrev pub planShown : List ℕ → Planned → List ℕ → Plans
 planShown work (Runs n) list = plans 0 work (overwrite 0 (n ∷ []) list)
-planShown work TooMany list = plans 31 work list
+planShown work (PlanRefused r) list = plans (numbersOfRefusal r .number) work list
 
 -- whole runs count; the rest of an odd list is no run
 unfoldable pub planned : List ℕ → List ℕ → ℕ → ℕ → List ℕ → List ℕ → Outcome′

@@ -155,6 +155,9 @@ pub extern "C" fn yuharopu_plan(
             answer[0] = count as u64;
             0
         }
-        Planned::TooMany => ZERO_EXTENT_LIMIT_EXCEEDED,
+        Planned::Refused(refusal) => {
+            let n = refusal.numbers();
+            n.number
+        }
     }
 }

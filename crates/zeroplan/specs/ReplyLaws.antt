@@ -11,7 +11,8 @@ use Rattle.meta.specs.declared.ZeroExtent.{ZeroExtent}
 use Rattle.meta.specs.Runs.{run, runsOf, numbersOf}
 use Rattle.runs.specs.Flat.{runsIn, padded}
 use Rattle.runs.specs.FlatLaws.{length-numbers}
-use Rattle.extents.specs.declared.Planned.the-variants.{Runs, TooMany}
+use Rattle.config.specs.declared.refusal.Refusal.{Refusal}
+use Rattle.extents.specs.declared.Planned.the-variants.{Runs, Refused}
 use Rattle.extents.specs.Plan.{plan, tooMany, kept}
 use Rattle.extents.specs.Plan.{Answer as Planned}
 use Rattle.extents.specs.PlanLaws.{plan-most}
@@ -99,10 +100,10 @@ unread t e r d e₀ r₀ d₀ q = ap (λ (p : Parsed). byReading p (parse t)) (s
 
 -- ## What the plan answered
 
-pub too-many : (n : ℕ) (w : List ℕ) (a : Planned) → outcome TooMany w ≡ planned n a → a ≡ tooMany
+pub too-many : (n : ℕ) (r : Refusal) (w : List ℕ) (a : Planned) → outcome (Refused r) w ≡ planned n a → a ≡ tooMany
 unfolding planned
-too-many n w tooMany q = refl
-too-many n w (kept l) q = let p = ap (λ (x : Outcome). x .answer) q in let z : _≡_ {A = ℕ} 0 1 = cc in absurd (omega arith)
+too-many n r w tooMany q = refl
+too-many n r w (kept l) q = let p = ap (λ (x : Outcome). x .answer) q in let z : _≡_ {A = ℕ} 0 1 = cc in absurd (omega arith)
 
 -- c runs, in front of the list
 pub record Kept (n c : ℕ) (w : List ℕ) (a : Planned) : Type 0 where

@@ -4,6 +4,7 @@ use mathlib.Core.List.{List, [], _∷_}
 use Prim.Native.Nat.{ℕ}
 use lib.ListN.{set}
 use borrow.Author.Tests.{lt-ltb, le-ltb}
+use Rattle.config.specs.declared.refusal.Numbers.{Numbers}
 use Rattle.memory.specs.Bytes.{overwrite}
 use Rattle.memory.specs.Laws.{set-overwrite}
 use Rattle.extents.specs.declared.Planned.{Planned}
@@ -15,6 +16,7 @@ use Rattle.yuharopu.proofs.yuharopu_plan.Tie as tie
 use Rattle.yuharopu.proofs.yuharopu_plan.Reads as reads
 use Rattle.yuharopu.proofs.yuharopu_plan.Lts as lts
 use Rattle.extents.proofs.plan_numbers.Reads as plan-numbers-reads
+use Rattle.config.proofs.refusal.Refusal.numbers.Reads as numbers-reads
 
 -- src/lib.rt:132:9
 returns : tie.Need-returns
@@ -55,9 +57,13 @@ enum-known-count c = search needs
 slice-write-answer : tie.Need-slice-write-answer
 slice-write-answer c = search needs
 
--- src/lib.rt:158:29
-enum-told : tie.Need-enum-told
-enum-told c = search needs
+-- src/lib.rt:158:26
+enum-known-refusal : tie.Need-enum-known-refusal
+enum-known-refusal c = search needs
+
+-- src/lib.rt:159:17
+numbers-requires : tie.Need-numbers-requires
+numbers-requires c κs = search needs
 
 -- src/lib.rt:119:1
 same-length : tie.Need-same-length
@@ -87,11 +93,13 @@ same-length-3 c = search needs
 -- src/lib.rt:119:1
 returns-5 : tie.Need-returns-5
 unfolding planned
-returns-5 c = let p = c .before .before .before .before in
+returns-5 c = let r = c .before .before in
+    let p = r .before .before .before .before in
     let i3 = p .before .before in
     let s = i3 .before .before .before .before .before .before .before .before .args in
     let w = p .plan-numbers .last .0 in
-    ap (λ (x : Planned). planShown w x (s .answer .now)) (sym (c .enum-told .given .1))
+    ap (λ (x : Numbers). plans (x .number) w (s .answer .now)) (c .numbers .ensures)
+    ∙ ap (λ (x : Planned). planShown w x (s .answer .now)) (sym (r .refusal .given .1))
     ∙ plan-shown (s .work .now) (s .extents .now) (s .old-size) (s .new-size) (s .«record» .now) (s .dirty .now) (s .answer .now) (outcome (p .plan-numbers .result) w)
     (i3 .before .before .if1 .left) (i3 .before .if2 .left) (i3 .if3 .left) (p .plan-numbers .ensures)
 
@@ -108,7 +116,8 @@ yuharopu-plan-spec =
     plan-numbers-requires
     enum-known-count
     slice-write-answer
-    enum-told
+    enum-known-refusal
+    numbers-requires
     same-length
     same-length-2
     returns-4

@@ -2,7 +2,7 @@ use Rattle.extents.specs.declared.Planned.{Planned}
 use Rattle.config.specs.Pages.{count}
 use Rattle.meta.specs.declared.ZeroExtent.{ZeroExtent}
 use Rattle.meta.specs.Runs.{runsOf}
-use Rattle.extents.specs.declared.Planned.the-variants.{Runs, TooMany}
+use Rattle.extents.specs.declared.Planned.the-variants.{Runs}
 use Rattle.extents.specs.Plan.{plan, tooMany, kept}
 use Rattle.extents.specs.PlanLaws.{plan-most}
 use Rattle.extents.specs.Outcome.{outcome, planned}
@@ -191,7 +191,7 @@ returns-2 c = let p = c .before .before .before .before .before .before .before 
     let s = p .before .before .before .before .before .before .before .before .before .before .before .before .before .before .before .before .before .before in
     let out = s .args .out .now in
     let t : plan 16384 1024 (x .input .old) (x .input .new) (x .input .extents) (x .input .records) (x .input .dirty) ≡ tooMany =
-    too-many 6146 (p .plan-numbers .last .0) _ (ap (λ (y : Planned). outcome y (p .plan-numbers .last .0)) (sym (c .before .before .before .before .before .enum-told2 .given .1)) ∙ plans p) in
+    too-many 6146 _ (p .plan-numbers .last .0) _ (ap (λ (y : Planned). outcome y (p .plan-numbers .last .0)) (sym (c .before .before .before .before .before .enum-told2 .given .1)) ∙ plans p) in
     c .before .before .print2 .ensures ∙ printed-room Answer.Extents [] out (omega (arith, s .pre)) ∙ ap (λ (l : List ℕ). write 0 l out) (sym (reply-extents (s .args .text .now) (x .input) (x .reply-is) t))
 
 -- src/main.rt:81:9
