@@ -1,6 +1,6 @@
 -- Pages of P bytes, for any P above 0: how many a size needs, the page that an offset lies in, and its place there.
 use mathlib.Core.Path.{_≡_, refl, sym, ap, _∙_}
-use Prim.Native.Nat.{ℕ, zero, suc, _+_, _-_, _*_, _/_, _%_, _≤_, _<_}
+use Prim.Native.Nat.{ℕ, suc, _+_, _-_, _*_, _/_, _%_, _≤_, _<_}
 use native.Mathlib.Nat.{mod-lt, div-add-mod', div-eq-of-lt-le, le-div-iff-mul-le, le-mul-of-pos-right, mul-le-mul-right, add-mul, one-mul, suc-mul, pos-of-ne-zero}
 use native.Mathlib.Omega.{arith}
 use mathlib.Core.Bool.{Bool, true, false}

@@ -1,15 +1,15 @@
 -- Laws of the superblock's bytes.
 use mathlib.Core.Path.{_≡_, refl, sym, ap, _∙_}
 use mathlib.Core.List.{List, [], _∷_, _++_, append-assoc, append-nil}
-use Prim.Native.Nat.{ℕ, zero, suc, _+_, _-_, _*_, _/_, _%_, _≤_, _<_, min}
+use Prim.Native.Nat.{ℕ, _+_, _*_, _≤_, _<_, min}
 use native.Mathlib.Omega.{arith}
-use lib.ListN.{length, getD, take, drop, length-append, length-take, length-drop}
-use lib.Seq.{take-all, take-take, getD-take, getD-drop, drop-drop, ext-getD}
+use lib.ListN.{length, getD, take, drop, length-append}
+use lib.Seq.{take-all}
 use Rattle.memory.specs.Bytes.{zeros, overwrite, resize}
-use Rattle.memory.specs.Laws.{length-resize, resize-in, overwrite-join, overwrite-cut, overwrite-zeros, length-overwrite, below, resize-patch}
+use Rattle.memory.specs.Laws.{length-resize, overwrite-join, overwrite-cut, overwrite-zeros, length-overwrite, below, resize-patch}
 use Rattle.meta.specs.declared.superblock.Superblock.{Superblock}
-use Rattle.meta.specs.Words.{take-words, words-append, word-halves, le, de, word, words, wordAt, wordsIn, wordsIn-at, wordAt-drop, length-wordsIn, length-word, length-words, length-le, Bytes}
-use Rattle.meta.specs.Block.{otherFields, sealedBy, fieldsOf, fieldsIn, fieldOffset, offset-is, ofFields, header, headerOf, blockBytes, encode, decode, encodedLen, prefix}
+use Rattle.meta.specs.Words.{take-words, words-append, word-halves, le, word, words, wordAt, wordsIn-at, wordAt-drop, length-wordsIn, length-word, length-words}
+use Rattle.meta.specs.Block.{otherFields, sealedBy, fieldsIn, fieldOffset, header, headerOf, blockBytes, encode, encodedLen}
 
 -- ## The fields in bytes
 

@@ -1,10 +1,9 @@
 -- 64-bit FNV-1a, as published by G. Fowler, L. C. Noll, K.-P. Vo, D. Eastlake and T. Hansen, "The FNV Non-Cryptographic Hash Algorithm"
 -- (draft-eastlake-fnv): the hash starts as the offset basis; for each octet of the data in turn it is combined with the octet by exclusive
 -- or, which reaches its lowest eight bits only, and then multiplied by the FNV prime, modulo 2^64.
-use mathlib.Core.Path.{_≡_, refl, sym, ap, _∙_}
+use mathlib.Core.Path.{_≡_, refl}
 use mathlib.Core.List.{List, [], _∷_, _++_}
 use Prim.Native.Nat.{ℕ, _+_, _*_, _/_, _%_, _^_, _<_}
-use native.Mathlib.Nat.{div-add-mod', mod-lt, zero-mul, zero-add}
 use native.Mathlib.Omega.{arith}
 use lib.Bits.{bitXor, xor-block, xor-zero-r}
 

@@ -1,13 +1,13 @@
 -- Laws of the tests at opening.
-use mathlib.Core.Path.{_≡_, refl, sym, ap, _∙_}
-use mathlib.Core.List.{List, [], _∷_, _++_, append-assoc}
-use Prim.Native.Nat.{ℕ, zero, suc, _+_, _-_, _*_, _/_, _≤_, _<_, min}
+use mathlib.Core.Path.{_≡_, sym, ap, _∙_}
+use mathlib.Core.List.{List}
+use Prim.Native.Nat.{ℕ, _+_, _-_, _*_, _/_, _≤_, _<_}
 use native.Mathlib.Omega.{arith}
-use mathlib.Core.Bool.{Bool, true, false}
+use mathlib.Core.Bool.{Bool}
 use borrow.Author.Tests.{eq-eqb, ne-eqb, le-leb, lt-leb}
-use lib.ListN.{length, getD, take, drop, length-append, length-take, length-drop}
-use lib.Seq.{take-take, take-add, drop-drop, getD-take}
-use Rattle.memory.specs.Bytes.{zeros, overwrite, resize}
+use lib.ListN.{length, take, drop, length-take, length-drop}
+use lib.Seq.{take-take, getD-take}
+use Rattle.memory.specs.Bytes.{zeros, overwrite}
 use Rattle.memory.specs.Laws.{overwrite-mid, length-zeros, drop-take}
 use Rattle.config.specs.declared.refusal.Refusal.the-variants.{ForeignStableMemoryImage, UnsupportedLayoutVersion, MetaChecksumMismatch}
 use Rattle.meta.specs.declared.superblock.Superblock.{Superblock}

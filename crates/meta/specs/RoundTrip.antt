@@ -1,25 +1,23 @@
 -- Encoding and decoding undo each other, and a block that was stored is accepted again.
 use mathlib.Core.Path.{_≡_, refl, sym, ap, _∙_, subst}
-use mathlib.Core.Bool.{Bool, true, false}
+use mathlib.Core.Bool.{true}
 use mathlib.Core.List.{List, [], _∷_, _++_, append-assoc, append-nil}
-use Prim.Native.Nat.{ℕ, zero, suc, _+_, _-_, _*_, _/_, _%_, _^_, _≤_, _<_, min}
+use Prim.Native.Nat.{ℕ, zero, suc, _+_, _-_, _*_, _≤_, _<_, min}
 use native.Mathlib.Nat.{mod-lt}
 use native.Mathlib.Omega.{arith}
-use lib.ListN.{length, getD, take, drop, length-append, length-take, length-drop, List·getD-append}
-use lib.Seq.{getD-take, getD-drop, drop-drop, drop-at, take-at, take-take, take-add, ext-getD}
-use borrow.Author.Tests.{eq-eqb}
+use lib.ListN.{length, getD, take, drop, length-take, length-drop}
+use lib.Seq.{getD-take, getD-drop, drop-drop, drop-at, take-add}
 use Rattle.memory.specs.Bytes.{zeros, overwrite, resize}
-use Rattle.memory.specs.Laws.{append-at, below, length-resize, resize-in, resize-same, overwrite-in, overwrite-lo, overwrite-hi, length-overwrite, length-zeros, take-overwrite, take-resize, overwrite-take}
+use Rattle.memory.specs.Laws.{append-at, resize-in, overwrite-in, length-zeros, take-overwrite, take-resize, overwrite-take}
 use Rattle.meta.specs.declared.superblock.Superblock.{Superblock}
-use Rattle.meta.specs.declared.ZeroExtent.{ZeroExtent}
 use Rattle.meta.specs.declared.opening.Loaded.the-variants.{Block}
 use Rattle.meta.specs.Table.{spelled}
-use Rattle.meta.specs.Words.{le, de, de-le, de-alike, de-lt, le-de, length-le, word, words, wordAt, wordsIn, wordAt-word, wordAt-drop, wordAt-alike, wordAt-lt, length-word, length-words, Bytes, bytes-drop}
+use Rattle.meta.specs.Words.{le, de, de-le, de-alike, le-de, length-le, word, words, wordAt, wordsIn, wordAt-word, wordAt-drop, wordAt-alike, length-word, Bytes, bytes-drop}
 use Rattle.meta.specs.Fnv.{step, fold, fnv1a64, basis}
 use Rattle.meta.specs.Runs.{run, runsOf, runsIn, runsIn-alike, normalized}
 use Rattle.meta.specs.Block.{magic, fieldsOf, otherFields, ofFields, fieldsIn, headerOf, header, blockBytes, encode, decode, encodedLen, prefix, sealedBy, checksumOf, seal, storeIn}
 use Rattle.meta.specs.BlockLaws.{length-fieldsIn, length-headerOf, length-encode, encodedLen-lo, encodedLen-hi, sealed-len, reseal}
-use Rattle.meta.specs.Load.{blockRuns, checksumIn, judge, load}
+use Rattle.meta.specs.Load.{blockRuns, checksumIn, load}
 use Rattle.meta.specs.LoadLaws.{judge-runs, load-is}
 
 -- numbers of 64 bits

@@ -4,11 +4,11 @@ use mathlib.Core.List.{List, [], _∷_, _++_, append-assoc, append-nil}
 use Prim.Native.Nat.{ℕ, zero, suc, _+_, _-_, _*_, _/_, _%_, _≤_, _<_}
 use native.Mathlib.Nat.{add-zero, add-assoc, zero-add, suc-add, mul-left-comm}
 use native.Mathlib.Omega.{arith}
-use lib.ListN.{length, getD, take, drop, length-append, length-take, length-drop}
+use lib.ListN.{length, getD, take, drop, length-append, length-take}
 use Rattle.memory.specs.Bytes.{overwrite}
 use Rattle.memory.specs.Laws.{overwrite-join}
 use native.Mathlib.Numerals.{add-one}
-use lib.Seq.{getD-drop, drop-drop, drop-at, sets, sets-eq, take-all, take-suc, take-nil, take-append-add}
+use lib.Seq.{getD-drop, drop-drop, sets, sets-eq, take-all, take-suc, take-nil, take-append-add}
 
 -- the k bytes of n, the lowest first
 abbrev pub le : ℕ → ℕ → List ℕ

@@ -19,7 +19,7 @@ use Rattle.runs.specs.Flat.{runsIn}
 use Rattle.extents.specs.declared.Planned.{Planned}
 use Rattle.extents.specs.declared.Planned.the-variants.{Runs, Refused as PlanRefused}
 use Rattle.extents.specs.Plan.{plan}
-use Rattle.extents.specs.Outcome.{Outcome as Outcome′, outcome as outcome′, planned as laid}
+use Rattle.extents.specs.Outcome.{Outcome as Outcome′, planned as laid}
 
 -- the number of the answer, and a list
 pub record Answer : Type 0 where

@@ -1,6 +1,6 @@
 -- Laws of the answer: what the buffers hold after an input was read, and after the plan.
 use mathlib.Core.Path.{_≡_, refl, sym, ap, _∙_}
-use mathlib.Core.List.{List, [], _∷_, _++_}
+use mathlib.Core.List.{List, [], _∷_}
 use mathlib.Core.Logic.{⊎-elim}
 use Prim.Native.Nat.{ℕ, _+_, _*_, _≤_}
 use native.Mathlib.Omega.{arith}
@@ -8,7 +8,7 @@ use lib.ListN.{length, take, drop}
 use lib.Seq.{sets, sets-eq, length-sets, take-at}
 use Rattle.config.specs.Pages.{count}
 use Rattle.meta.specs.declared.ZeroExtent.{ZeroExtent}
-use Rattle.meta.specs.Runs.{run, runsOf, numbersOf}
+use Rattle.meta.specs.Runs.{runsOf, numbersOf}
 use Rattle.runs.specs.Flat.{runsIn, padded}
 use Rattle.runs.specs.FlatLaws.{length-numbers}
 use Rattle.config.specs.declared.refusal.Refusal.{Refusal}
@@ -20,7 +20,7 @@ use Rattle.plan_text.specs.Print.{report-length}
 use Rattle.extents.specs.Outcome.{outcome, planned, Outcome}
 use Rattle.plan_text.specs.declared.Answer.{Answer}
 use Rattle.plan_text.specs.declared.Parsed.{Parsed}
-use Rattle.plan_text.specs.Grammar.{Input, report, Valid, WellFormed}
+use Rattle.plan_text.specs.Grammar.{Input, report, Valid}
 use Rattle.plan_text.specs.Parse.{Reading, parse, accepted}
 use Rattle.plan_text.specs.Means.{accepted-is-well-formed, malformed-or-accepted}
 use Rattle.plan_text.specs.Fill.{filledBy}

@@ -1,14 +1,12 @@
 -- `config::div_ceil` meets its contract: one more than the quotient is at most `n`, since something is left over.
 use mathlib.Core.Path.{sym}
+use Prim.Native.Nat.{_/_}
 use native.Mathlib.Nat.{div-add-mod', le-mul-of-pos-right, pos-of-ne-zero}
 use native.Mathlib.Omega.{arith}
-use Prim.Native.Nat.{ℕ, _/_}
 use borrow.Author.Needs.{needs}
 use Rattle.config.specs.Pages.{count-whole, count-part}
 use Rattle.config.proofs.div_ceil.Statement.{statement}
 use Rattle.config.proofs.div_ceil.Tie as tie
-use Rattle.config.proofs.div_ceil.Reads as reads
-use Rattle.config.proofs.div_ceil.Lts as lts
 
 div-whole : tie.Need-div-whole
 div-whole c = search needs

@@ -1,14 +1,9 @@
 -- `fnv1a64::print_hashes` meets its contract: each turn starts past the line before.
-use Prim.Native.Nat.{ℕ, _+_, _-_, _≤_}
-use native.Mathlib.Omega.{arith}
+use Prim.Native.Nat.{_+_, _-_, _≤_}
 use lib.ListN.{length}
 use borrow.Author.Needs.{needs}
 use Rattle.fnv1a64.proofs.print_hashes.Statement.{statement}
 use Rattle.fnv1a64.proofs.print_hashes.Tie as tie
-use Rattle.fnv1a64.proofs.print_hashes.Reads as reads
-use Rattle.fnv1a64.proofs.print_hashes.Lts as lts
-use Rattle.bytes.proofs.scan.find.Reads as find-reads
-use Rattle.fnv1a64.proofs.print_hash.Reads as print-hash-reads
 
 abbrev Inv-loop : tie.InvT-loop
 Inv-loop text from₀ from = from ≤ length text + 1
@@ -16,43 +11,33 @@ Inv-loop text from₀ from = from ≤ length text + 1
 abbrev μ-loop : tie.MeasureT-loop
 μ-loop text from₀ from = length text + 1 - from
 
--- src/main.rt:13:5
 loop-holds : tie.Need-loop-holds Inv-loop μ-loop
 loop-holds c = search needs
 
--- src/main.rt:14:13
 find-requires : tie.Need-find-requires Inv-loop μ-loop
 find-requires c κs = search needs
 
--- src/main.rt:15:20
 sub-print-hash : tie.Need-sub-print-hash Inv-loop μ-loop
 sub-print-hash c = search needs
 
--- src/main.rt:15:20
 part-print-hash-start : tie.Need-part-print-hash-start Inv-loop μ-loop
 part-print-hash-start c = search needs
 
--- src/main.rt:15:20
 part-print-hash-end : tie.Need-part-print-hash-end Inv-loop μ-loop
 part-print-hash-end c = search needs
 
--- src/main.rt:15:9
 print-hash-requires : tie.Need-print-hash-requires Inv-loop μ-loop
 print-hash-requires c κs = search needs
 
--- src/main.rt:16:16
 add-from : tie.Need-add-from Inv-loop μ-loop
 add-from c = search needs
 
--- src/main.rt:13:5
 loop-less : tie.Need-loop-less Inv-loop μ-loop
 loop-less c = search needs
 
--- src/main.rt:13:5
 loop-again : tie.Need-loop-again Inv-loop μ-loop
 loop-again c = search needs
 
--- src/main.rt:11:1
 returns : tie.Need-returns Inv-loop μ-loop
 returns c = search needs
 

@@ -1,40 +1,29 @@
 -- `memory::grow` meets its contract, by the three laws of `growTo`.
-use mathlib.Core.Path.{_≡_, sym, ap, _∙_}
-use Prim.Native.Nat.{ℕ, _+_, _-_, _*_, _/_, _≤_, _<_}
+use mathlib.Core.Path.{_≡_, sym}
+use Prim.Native.Nat.{_-_, _*_, _/_, _≤_, _<_}
 use native.Mathlib.Omega.{arith}
-use lib.ListN.{length, length-take, length-drop}
+use lib.ListN.{length}
+use borrow.Author.Needs.{needs}
 use Rattle.config.specs.Pages.{count}
-use Rattle.memory.specs.Bytes.{zeros, overwrite}
 use Rattle.memory.specs.Laws.{part-filled}
 use Rattle.memory.specs.Growth.{grow-none, grow-more, grow-refused}
-use borrow.Author.Needs.{needs}
 use Rattle.memory.proofs.grow.Statement.{statement}
 use Rattle.memory.proofs.grow.Tie as tie
-use Rattle.memory.proofs.grow.Reads as reads
-use Rattle.memory.proofs.grow.Lts as lts
-use Rattle.config.proofs.stable_pages_for.Reads as stable-pages-for-reads
-use Rattle.memory.proofs.ceiling.Reads as ceiling-reads
-use Rattle.memory.proofs.part.fill.Reads as fill-reads
 
--- src/lib.rt:57:9
 stable-pages-for-requires : tie.Need-stable-pages-for-requires
 stable-pages-for-requires c κs = search needs
 
--- src/lib.rt:59:9
 returns : tie.Need-returns
 returns c = let s = c .before .before .before .before .before .args in
     sym (grow-none 65536 (omega arith) (s .count .0) (s .end) (s .mem .now)
     (omega (arith, c .before .before .before .stable-pages-for .ensures, c .if1 .taken)))
 
--- src/lib.rt:61:9
 ceiling-requires : tie.Need-ceiling-requires
 ceiling-requires c κs = search needs
 
--- src/lib.rt:63:9
 same-length : tie.Need-same-length
 same-length c = search needs
 
--- src/lib.rt:63:9
 returns-2 : tie.Need-returns-2
 returns-2 c = let s = c .before .before .before .before .before .before .before .before .before .before .args in
     let q = c .before .before .before .before .before .before .before .before .stable-pages-for in
@@ -42,35 +31,27 @@ returns-2 c = let s = c .before .before .before .before .before .before .before 
     (c .before .before .before .before .before .if1 .left)
     (omega (arith, c .if2 .taken, c .before .before .before .ceiling .ensures)))
 
--- src/lib.rt:68:17
 mul-from : tie.Need-mul-from
 mul-from c = search needs
 
--- src/lib.rt:69:15
 mul-to : tie.Need-mul-to
 mul-to c = search needs
 
--- src/lib.rt:70:10
 sub-fill : tie.Need-sub-fill
 sub-fill c = search needs
 
--- src/lib.rt:70:10
 part-fill-start : tie.Need-part-fill-start
 part-fill-start c = search needs
 
--- src/lib.rt:70:10
 part-fill-end : tie.Need-part-fill-end
 part-fill-end c = search needs
 
--- src/lib.rt:70:5
 fill-requires : tie.Need-fill-requires
 fill-requires c κs = search needs
 
--- src/lib.rt:54:1
 same-length-2 : tie.Need-same-length-2
 same-length-2 c = search needs
 
--- src/lib.rt:54:1
 returns-3 : tie.Need-returns-3
 returns-3 c = let r = c .before .before .before .before .before .before in
     let s = r .before .before .before .before .before .before .before .before .before .before .args in

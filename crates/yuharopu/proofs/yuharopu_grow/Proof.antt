@@ -1,68 +1,50 @@
 -- `yuharopu_grow` meets its contract.
-use mathlib.Core.Path.{_≡_, refl, sym, ap, _∙_}
-use mathlib.Core.List.{List, [], _∷_}
-use Prim.Native.Nat.{ℕ}
-use borrow.Author.Tests.{lt-ltb, le-ltb}
+use mathlib.Core.Path.{sym, ap, _∙_}
+use mathlib.Core.List.{[], _∷_}
+use borrow.Author.Tests.{lt-ltb}
+use borrow.Author.Needs.{needs}
 use Rattle.config.specs.declared.refusal.Numbers.{Numbers}
 use Rattle.memory.specs.declared.Growth.{Growth}
 use Rattle.memory.specs.Bytes.{overwrite}
 use Rattle.memory.specs.Growth.{outcome}
 use Rattle.yuharopu.specs.Exports.{grew, growthShown, growPages, grow-shown}
-use borrow.Author.Needs.{needs}
 use Rattle.yuharopu.proofs.yuharopu_grow.Statement.{statement}
 use Rattle.yuharopu.proofs.yuharopu_grow.Tie as tie
-use Rattle.yuharopu.proofs.yuharopu_grow.Reads as reads
-use Rattle.yuharopu.proofs.yuharopu_grow.Lts as lts
-use Rattle.config.proofs.refusal.Refusal.numbers.Reads as numbers-reads
-use Rattle.memory.proofs.grow.Reads as grow-reads
-use Rattle.memory.proofs.copy_numbers.Reads as copy-numbers-reads
 
--- src/lib.rt:42:9
 returns : tie.Need-returns
 unfolding growPages
 returns c = simp (lt-ltb _ _ (c .if1 .taken))
 
--- src/lib.rt:44:11
 grow-requires : tie.Need-grow-requires
 grow-requires c κs = search needs
 
--- src/lib.rt:45:23
 enum-known-after : tie.Need-enum-known-after
 enum-known-after c = search needs
 
--- src/lib.rt:46:41
 slice-aggregate-copy-numbers : tie.Need-slice-aggregate-copy-numbers
 slice-aggregate-copy-numbers c = search needs
 
--- src/lib.rt:46:13
 copy-numbers-requires : tie.Need-copy-numbers-requires
 copy-numbers-requires c κs = search needs
 
--- src/lib.rt:49:25
 enum-known-refusal : tie.Need-enum-known-refusal
 enum-known-refusal c = search needs
 
--- src/lib.rt:50:17
 numbers-requires : tie.Need-numbers-requires
 numbers-requires c κs = search needs
 
--- src/lib.rt:51:41
 slice-aggregate-copy-numbers-2 : tie.Need-slice-aggregate-copy-numbers-2
 slice-aggregate-copy-numbers-2 c = search needs
 
--- src/lib.rt:51:13
 copy-numbers-requires-2 : tie.Need-copy-numbers-requires-2
 copy-numbers-requires-2 c κs = search needs
 
--- src/lib.rt:37:1
 same-length : tie.Need-same-length
 same-length c = search needs
 
--- src/lib.rt:37:1
 same-length-2 : tie.Need-same-length-2
 same-length-2 c = search needs
 
--- src/lib.rt:37:1
 returns-2 : tie.Need-returns-2
 returns-2 c = let g = c .before .before .before .before .before .before .before .before .before .before in
     let s = g .before .before .before .before .before .args in
@@ -71,15 +53,12 @@ returns-2 c = let g = c .before .before .before .before .before .before .before 
     ∙ ap (λ (x : Growth). growthShown (s .count) (g .grow .last .0) x (s .pages .now)) (sym (a .1))
     ∙ grow-shown (s .mem .now) (s .count) (s .end) (s .pages .now) (outcome (g .grow .result) (g .grow .last .0)) (g .before .before .if1 .left) (g .grow .ensures)
 
--- src/lib.rt:37:1
 same-length-3 : tie.Need-same-length-3
 same-length-3 c = search needs
 
--- src/lib.rt:37:1
 same-length-4 : tie.Need-same-length-4
 same-length-4 c = search needs
 
--- src/lib.rt:37:1
 returns-3 : tie.Need-returns-3
 returns-3 c = let g = c .before .before .before .before .before .before .before .before .before .before .before in
     let s = g .before .before .before .before .before .args in

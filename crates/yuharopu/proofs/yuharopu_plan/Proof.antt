@@ -1,79 +1,57 @@
 -- `yuharopu_plan` meets its contract: the plan of `extents`, shown.
-use mathlib.Core.Path.{_≡_, refl, sym, ap, _∙_}
-use mathlib.Core.List.{List, [], _∷_}
-use Prim.Native.Nat.{ℕ}
-use lib.ListN.{set}
+use mathlib.Core.Path.{sym, ap, _∙_}
 use borrow.Author.Tests.{lt-ltb, le-ltb}
+use borrow.Author.Needs.{needs}
 use Rattle.config.specs.declared.refusal.Numbers.{Numbers}
-use Rattle.memory.specs.Bytes.{overwrite}
 use Rattle.memory.specs.Laws.{set-overwrite}
 use Rattle.extents.specs.declared.Planned.{Planned}
 use Rattle.extents.specs.Outcome.{outcome}
 use Rattle.yuharopu.specs.Exports.{plans, planShown, planned, planRuns, plan-shown}
-use borrow.Author.Needs.{needs}
 use Rattle.yuharopu.proofs.yuharopu_plan.Statement.{statement}
 use Rattle.yuharopu.proofs.yuharopu_plan.Tie as tie
-use Rattle.yuharopu.proofs.yuharopu_plan.Reads as reads
-use Rattle.yuharopu.proofs.yuharopu_plan.Lts as lts
-use Rattle.extents.proofs.plan_numbers.Reads as plan-numbers-reads
-use Rattle.config.proofs.refusal.Refusal.numbers.Reads as numbers-reads
 
--- src/lib.rt:132:9
 returns : tie.Need-returns
 unfolding planRuns
 returns c = simp (lt-ltb _ _ (c .if1 .taken))
 
--- src/lib.rt:136:9
 returns-2 : tie.Need-returns-2
 unfolding planRuns
 returns-2 c = simp (le-ltb _ _ (c .before .if1 .left), lt-ltb _ _ (c .if2 .taken))
 
--- src/lib.rt:140:30
 mul-if3 : tie.Need-mul-if3
 mul-if3 c = search needs
 
--- src/lib.rt:140:22
 add-if3 : tie.Need-add-if3
 add-if3 c = search needs
 
--- src/lib.rt:140:21
 mul-if3-2 : tie.Need-mul-if3-2
 mul-if3-2 c = search needs
 
--- src/lib.rt:141:9
 returns-3 : tie.Need-returns-3
 unfolding planRuns
 returns-3 c = simp (le-ltb _ _ (c .before .before .if1 .left), le-ltb _ _ (c .before .if2 .left), lt-ltb _ _ (c .if3 .taken))
 
--- src/lib.rt:143:11
 plan-numbers-requires : tie.Need-plan-numbers-requires
 plan-numbers-requires c κs = search needs
 
--- src/lib.rt:154:23
 enum-known-count : tie.Need-enum-known-count
 enum-known-count c = search needs
 
--- src/lib.rt:155:13
 slice-write-answer : tie.Need-slice-write-answer
 slice-write-answer c = search needs
 
--- src/lib.rt:158:26
 enum-known-refusal : tie.Need-enum-known-refusal
 enum-known-refusal c = search needs
 
--- src/lib.rt:159:17
 numbers-requires : tie.Need-numbers-requires
 numbers-requires c κs = search needs
 
--- src/lib.rt:119:1
 same-length : tie.Need-same-length
 same-length c = search needs
 
--- src/lib.rt:119:1
 same-length-2 : tie.Need-same-length-2
 same-length-2 c = search needs
 
--- src/lib.rt:119:1
 returns-4 : tie.Need-returns-4
 unfolding planned
 returns-4 c = let p = c .before .before .before .before .before in
@@ -86,11 +64,9 @@ returns-4 c = let p = c .before .before .before .before .before in
     ∙ plan-shown (s .work .now) (s .extents .now) (s .old-size) (s .new-size) (s .«record» .now) (s .dirty .now) (s .answer .now) (outcome (p .plan-numbers .result) w)
     (i3 .before .before .if1 .left) (i3 .before .if2 .left) (i3 .if3 .left) (p .plan-numbers .ensures)
 
--- src/lib.rt:119:1
 same-length-3 : tie.Need-same-length-3
 same-length-3 c = search needs
 
--- src/lib.rt:119:1
 returns-5 : tie.Need-returns-5
 unfolding planned
 returns-5 c = let r = c .before .before in

@@ -1,68 +1,51 @@
-use native.Mathlib.Omega.{arith}
-use lib.ListN.{length-take}
 -- `yuharopu_superblock_store` meets its contract.
-use mathlib.Core.Path.{_≡_, refl, sym, ap, _∙_}
-use mathlib.Core.List.{List}
-use Prim.Native.Nat.{ℕ, _*_}
-use lib.ListN.{getD, take}
+use mathlib.Core.Path.{_≡_, ap, _∙_}
+use Prim.Native.Nat.{_*_}
+use native.Mathlib.Omega.{arith}
+use lib.ListN.{length-take, getD, take}
 use borrow.Author.Tests.{lt-ltb, le-ltb}
+use borrow.Author.Needs.{needs}
 use Rattle.meta.specs.declared.superblock.Superblock.{Superblock}
 use Rattle.meta.specs.Block.{storeIn}
 use Rattle.meta.specs.Stored.{Outcome}
 use Rattle.yuharopu.specs.Exports.{answer, storeFields}
-use borrow.Author.Needs.{needs}
 use Rattle.yuharopu.proofs.yuharopu_superblock_store.Statement.{statement}
 use Rattle.yuharopu.proofs.yuharopu_superblock_store.Tie as tie
-use Rattle.yuharopu.proofs.yuharopu_superblock_store.Reads as reads
-use Rattle.yuharopu.proofs.yuharopu_superblock_store.Lts as lts
-use Rattle.meta.proofs.superblock.Superblock.of_numbers.Reads as of-numbers-reads
-use Rattle.meta.proofs.superblock.Superblock.store.Reads as store-reads
 
--- src/lib.rt:100:9
 returns : tie.Need-returns
 unfolding storeFields
 returns c = simp (lt-ltb _ _ (c .if1 .taken))
 
--- src/lib.rt:103:9
 returns-2 : tie.Need-returns-2
 unfolding storeFields
 returns-2 c = simp (le-ltb _ _ (c .before .if1 .left), lt-ltb _ _ (c .if2 .taken))
 
--- src/lib.rt:105:17
 shared-slice-read-count : tie.Need-shared-slice-read-count
 shared-slice-read-count c = search needs
 
--- src/lib.rt:107:9
 returns-3 : tie.Need-returns-3
 unfolding storeFields
 returns-3 c = simp (le-ltb _ _ (c .before .before .before .if1 .left), le-ltb _ _ (c .before .before .if2 .left), lt-ltb _ _ (c .if3 .taken))
 
--- src/lib.rt:109:19
 mul-numbers : tie.Need-mul-numbers
 mul-numbers c = search needs
 
--- src/lib.rt:111:9
 returns-4 : tie.Need-returns-4
 unfolding storeFields
 returns-4 c = simp (le-ltb _ _ (c .before .before .before .before .if1 .left), le-ltb _ _ (c .before .before .before .if2 .left), le-ltb _ _ (c .before .if3 .left), lt-ltb _ _ (c .if4 .taken))
 
--- src/lib.rt:113:9
 of-numbers-requires : tie.Need-of-numbers-requires
 of-numbers-requires c κs = search needs
 
--- src/lib.rt:114:17
 slice-aggregate-store : tie.Need-slice-aggregate-store
 slice-aggregate-store c = simp length-take (omega (arith, c .before .before .if4 .left))
 
--- src/lib.rt:114:5
 store-requires : tie.Need-store-requires
 store-requires c κs = search needs
 
--- src/lib.rt:95:1
 same-length : tie.Need-same-length
 same-length c = search needs
 
--- src/lib.rt:95:1
 returns-5 : tie.Need-returns-5
 unfolding storeFields
 returns-5 c = let i4 = c .before .before .before .before .before .before in

@@ -1,40 +1,28 @@
+-- `zeroplan::respond` meets its contract: what was read is planned, and what was planned is printed.
+use mathlib.Core.Path.{_≡_, sym, ap, _∙_}
+use mathlib.Core.List.{List, []}
+use Prim.Native.Nat.{ℕ, _*_, _≤_}
+use native.Mathlib.Omega.{arith}
+use lib.ListN.{length, take, length-take}
+use borrow.Author.Needs.{needs}
 use Rattle.extents.specs.declared.Planned.{Planned}
 use Rattle.config.specs.Pages.{count}
 use Rattle.meta.specs.declared.ZeroExtent.{ZeroExtent}
 use Rattle.meta.specs.Runs.{runsOf}
-use Rattle.extents.specs.declared.Planned.the-variants.{Runs}
 use Rattle.extents.specs.Plan.{plan, tooMany, kept}
 use Rattle.extents.specs.PlanLaws.{plan-most}
 use Rattle.extents.specs.Outcome.{outcome, planned}
-use Rattle.zeroplan.specs.ReplyLaws.{lengths, too-many, enough, Kept, runs-shown, reply-extents, reply-runs}
--- `zeroplan::respond` meets its contract: what was read is planned, and what was planned is printed.
-use mathlib.Core.Path.{_≡_, refl, sym, ap, _∙_}
-use mathlib.Core.List.{List, []}
-use Prim.Native.Nat.{ℕ, _+_, _*_, _≤_}
-use native.Mathlib.Omega.{arith}
-use lib.ListN.{length, take, length-take}
-use Rattle.decimal.specs.Write.{Written, written, write}
+use Rattle.zeroplan.specs.ReplyLaws.{lengths, too-many, enough, Kept, runs-shown, reply-extents, reply-runs, Said, said, unread}
+use Rattle.decimal.specs.Write.{write}
 use Rattle.plan_text.specs.declared.Answer.{Answer}
 use Rattle.plan_text.specs.declared.Parsed.{Parsed}
 use Rattle.plan_text.specs.Grammar.{report}
 use Rattle.plan_text.specs.Parse.{parse}
 use Rattle.plan_text.specs.Print.{printed, printed-room}
-use Rattle.plan_text.specs.Fill.{filledBy}
-use Rattle.plan_text.specs.Fill.{outcome as read}
+use Rattle.plan_text.specs.Fill.{filledBy, outcome as read}
 use Rattle.zeroplan.specs.Reply.{reply}
-use Rattle.zeroplan.specs.ReplyLaws.{Said, said, unread}
-use borrow.Author.Needs.{needs}
 use Rattle.zeroplan.proofs.respond.Statement.{statement}
 use Rattle.zeroplan.proofs.respond.Tie as tie
-use Rattle.zeroplan.proofs.respond.Reads as reads
-use Rattle.zeroplan.proofs.respond.Lts as lts
-use Rattle.config.proofs.page_count_for_size.Reads as page-count-for-size-reads
-use Rattle.extents.proofs.plan_numbers.Reads as plan-numbers-reads
-use Rattle.plan_text.proofs.parse.Reads as parse-reads
-use Rattle.plan_text.proofs.print.Reads as print-reads
-use Rattle.zeroplan.proofs.pages_buffer.Reads as pages-buffer-reads
-use Rattle.zeroplan.proofs.runs_buffer.Reads as runs-buffer-reads
-use Rattle.zeroplan.proofs.work_list.Reads as work-list-reads
 
 -- what was read, as one answer
 read-as : (c : tie.After-parse) (x : Parsed) → c .parse .result ≡ x → let b = c .before .before .before .before in
@@ -86,51 +74,39 @@ module _ (c : tie.After-planned) where
   room : length (p′ .plan-numbers .last .0) ≡ 6146
   room = p′ .plan-numbers .kept .0 ∙ s′ p′ .before .before .before .before .before .before .work-list .ensures
 
--- src/main.rt:52:21
 runs-buffer-requires : tie.Need-runs-buffer-requires
 runs-buffer-requires c κs = search needs
 
--- src/main.rt:53:22
 runs-buffer-requires-2 : tie.Need-runs-buffer-requires-2
 runs-buffer-requires-2 c κs = search needs
 
--- src/main.rt:54:23
 pages-buffer-requires : tie.Need-pages-buffer-requires
 pages-buffer-requires c κs = search needs
 
--- src/main.rt:55:20
 work-list-requires : tie.Need-work-list-requires
 work-list-requires c κs = search needs
 
--- src/main.rt:56:9
 parse-requires : tie.Need-parse-requires
 parse-requires c κs = search needs
 
--- src/main.rt:58:9
 enum-known-parsed : tie.Need-enum-known-parsed
 enum-known-parsed c = search needs
 
--- src/main.rt:65:33
 enum-told : tie.Need-enum-told
 enum-told c = search needs
 
--- src/main.rt:65:57
 array-share-prefix-work : tie.Need-array-share-prefix-work
 array-share-prefix-work c = search needs
 
--- src/main.rt:65:57
 slice-aggregate-print : tie.Need-slice-aggregate-print
 slice-aggregate-print c = search needs
 
--- src/main.rt:65:9
 print-requires : tie.Need-print-requires
 print-requires c κs = search needs
 
--- src/main.rt:65:9
 same-length : tie.Need-same-length
 same-length c = search needs
 
--- src/main.rt:65:9
 returns : tie.Need-returns
 returns c = let p = c .before .before .before .before .before .before .before in
     let b = p .before .before .before .before in
@@ -139,52 +115,40 @@ returns c = let p = c .before .before .before .before .before .before .before in
     let u : reply (s .args .text .now) ≡ report Answer.Malformed [] = unread (s .args .text .now) _ _ _ _ _ _ (read-as p Parsed.Malformed (c .before .before .before .before .before .enum-told .given .1)) in
     c .before .before .print .ensures ∙ printed-room Answer.Malformed [] out (omega (arith, s .pre)) ∙ ap (λ (t : List ℕ). write 0 t out) (sym u)
 
--- src/main.rt:68:9
 slice-aggregate-plan-numbers : tie.Need-slice-aggregate-plan-numbers
 slice-aggregate-plan-numbers c = search needs
 
--- src/main.rt:69:9
 slice-aggregate-plan-numbers-2 : tie.Need-slice-aggregate-plan-numbers-2
 slice-aggregate-plan-numbers-2 c = sym (long (c .before .before .before .before .before) .0)
 
--- src/main.rt:73:9
 slice-aggregate-plan-numbers-3 : tie.Need-slice-aggregate-plan-numbers-3
 slice-aggregate-plan-numbers-3 c = sym (long (c .before .before .before .before .before .before) .1)
 
--- src/main.rt:75:9
 slice-aggregate-plan-numbers-4 : tie.Need-slice-aggregate-plan-numbers-4
 slice-aggregate-plan-numbers-4 c = sym (long (c .before .before .before .before .before .before .before) .2)
 
--- src/main.rt:67:9
 plan-numbers-requires : tie.Need-plan-numbers-requires
 plan-numbers-requires c κs = let x = says (c .before .before .before .before .before) in
     (x .few, omega (arith, x .pages, c .before .before .before .before .before .before .before .before .before .before .before .work-list .ensures))
 
--- src/main.rt:78:23
 enum-known-planned : tie.Need-enum-known-planned
 enum-known-planned c = search needs
 
--- src/main.rt:79:33
 enum-told-2 : tie.Need-enum-told-2
 enum-told-2 c = search needs
 
--- src/main.rt:79:55
 array-share-prefix-work-2 : tie.Need-array-share-prefix-work-2
 array-share-prefix-work-2 c = search needs
 
--- src/main.rt:79:55
 slice-aggregate-print-2 : tie.Need-slice-aggregate-print-2
 slice-aggregate-print-2 c = search needs
 
--- src/main.rt:79:9
 print-requires-2 : tie.Need-print-requires-2
 print-requires-2 c κs = search needs
 
--- src/main.rt:79:9
 same-length-2 : tie.Need-same-length-2
 same-length-2 c = search needs
 
--- src/main.rt:79:9
 returns-2 : tie.Need-returns-2
 returns-2 c = let p = c .before .before .before .before .before .before .before .before in
     let x = says (s′ p) in
@@ -194,31 +158,24 @@ returns-2 c = let p = c .before .before .before .before .before .before .before 
     too-many 6146 _ (p .plan-numbers .last .0) _ (ap (λ (y : Planned). outcome y (p .plan-numbers .last .0)) (sym (c .before .before .before .before .before .enum-told2 .given .1)) ∙ plans p) in
     c .before .before .print2 .ensures ∙ printed-room Answer.Extents [] out (omega (arith, s .pre)) ∙ ap (λ (l : List ℕ). write 0 l out) (sym (reply-extents (s .args .text .now) (x .input) (x .reply-is) t))
 
--- src/main.rt:81:9
 page-count-for-size-requires : tie.Need-page-count-for-size-requires
 page-count-for-size-requires c κs = search needs
 
--- src/main.rt:82:16
 mul-used : tie.Need-mul-used
 mul-used c = omega (arith, few (c .before .before))
 
--- src/main.rt:83:54
 array-share-prefix-work-3 : tie.Need-array-share-prefix-work-3
 array-share-prefix-work-3 c = omega (arith, few (c .before .before .before), room (c .before .before .before))
 
--- src/main.rt:83:54
 slice-aggregate-print-3 : tie.Need-slice-aggregate-print-3
 slice-aggregate-print-3 c = simp length-take (omega (arith, few (c .before .before .before .before), room (c .before .before .before .before)))
 
--- src/main.rt:83:5
 print-requires-3 : tie.Need-print-requires-3
 print-requires-3 c κs = search needs
 
--- src/main.rt:48:1
 same-length-3 : tie.Need-same-length-3
 same-length-3 c = search needs
 
--- src/main.rt:48:1
 returns-3 : tie.Need-returns-3
 returns-3 c = let k = c .before .before .before .before .before .before .before in
     let x = says (s′ (p′ k)) in

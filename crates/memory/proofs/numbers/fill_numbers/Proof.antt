@@ -1,7 +1,7 @@
 -- `memory::fill_numbers` meets its contract, as `memory::fill` does.
 use mathlib.Core.Path.{_≡_, refl, _∙_}
 use mathlib.Core.List.{_++_}
-use Prim.Native.Nat.{ℕ, _-_, _≤_, _<_}
+use Prim.Native.Nat.{_-_, _≤_, _<_}
 use native.Mathlib.Omega.{arith}
 use lib.ListN.{length, drop, replicate, length-set}
 use borrow.Author.Fill.{fill-none, fill-more}
@@ -9,8 +9,6 @@ use borrow.Author.Needs.{needs}
 use Rattle.memory.specs.Laws.{fill-end}
 use Rattle.memory.proofs.numbers.fill_numbers.Statement.{statement}
 use Rattle.memory.proofs.numbers.fill_numbers.Tie as tie
-use Rattle.memory.proofs.numbers.fill_numbers.Reads as reads
-use Rattle.memory.proofs.numbers.fill_numbers.Lts as lts
 
 abbrev Inv-loop : tie.InvT-loop
 Inv-loop dst₀ i₀ dst i = (i ≤ length dst₀) × ((length dst ≡ length dst₀) × (dst ≡ replicate i 0 ++ drop i dst₀))
@@ -18,38 +16,30 @@ Inv-loop dst₀ i₀ dst i = (i ≤ length dst₀) × ((length dst ≡ length ds
 abbrev μ-loop : tie.MeasureT-loop
 μ-loop dst₀ i₀ dst i = length dst₀ - i
 
--- src/numbers.rt:12:5
 loop-holds : tie.Need-loop-holds Inv-loop μ-loop
 loop-holds c = (search needs, (refl, fill-none (c .args .dst .now) 0))
 
--- src/numbers.rt:13:9
 mul-dst : tie.Need-mul-dst Inv-loop μ-loop
 mul-dst c = search needs
 
--- src/numbers.rt:13:9
 slice-write-dst : tie.Need-slice-write-dst Inv-loop μ-loop
 slice-write-dst c = search needs
 
--- src/numbers.rt:14:9
 add-i : tie.Need-add-i Inv-loop μ-loop
 add-i c = search needs
 
--- src/numbers.rt:12:5
 loop-less : tie.Need-loop-less Inv-loop μ-loop
 loop-less c = search needs
 
--- src/numbers.rt:12:5
 loop-again : tie.Need-loop-again Inv-loop μ-loop
 loop-again c = let at = c .before in
     let d = at .before .args .dst .now in
     let h : at .loop .i < length d = omega arith in
     (omega arith, (simp length-set (at .loop .inv .1 .0), rw (at .loop .inv .1 .1) (fill-more (at .loop .i) 0 d h)))
 
--- src/numbers.rt:8:1
 same-length : tie.Need-same-length Inv-loop μ-loop
 same-length c = search needs
 
--- src/numbers.rt:8:1
 returns : tie.Need-returns Inv-loop μ-loop
 returns c = let at = c .before in
     at .loop .inv .1 .1 ∙ fill-end (at .loop .i) (at .before .args .dst .now) (omega arith)

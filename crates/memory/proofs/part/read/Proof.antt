@@ -1,20 +1,13 @@
-use mathlib.Core.List.{List}
-use lib.ListN.{take, drop}
 -- `memory::read` meets its contract: what there is, then zeros.
-use mathlib.Core.Path.{_≡_, sym, ap, _∙_}
-use Prim.Native.Nat.{ℕ, _+_, _-_, _*_, _/_, _≤_, _<_}
+use mathlib.Core.Path.{_≡_, _∙_}
+use Prim.Native.Nat.{_-_}
 use native.Mathlib.Omega.{arith}
-use lib.ListN.{length, length-take, length-drop}
-use Rattle.memory.specs.Bytes.{zeros, overwrite, resize}
-use Rattle.memory.specs.Laws.{tail-is, overwrite-long, part-padded, length-overwrite}
+use lib.ListN.{drop, length, length-drop}
 use borrow.Author.Needs.{needs}
+use Rattle.memory.specs.Bytes.{overwrite}
+use Rattle.memory.specs.Laws.{tail-is, overwrite-long, part-padded, length-overwrite}
 use Rattle.memory.proofs.part.read.Statement.{statement}
 use Rattle.memory.proofs.part.read.Tie as tie
-use Rattle.memory.proofs.part.read.Reads as reads
-use Rattle.memory.proofs.part.read.Lts as lts
-use Rattle.memory.proofs.part.copy.Reads as copy-reads
-use Rattle.memory.proofs.part.fill.Reads as fill-reads
-use Rattle.memory.proofs.part.least.Reads as least-reads
 
 -- what there is of src stands over the front of dst
 copied : (r : tie.After-slice-known2) → let s = r .before .before .before .before .before .before .before .before .args in
@@ -27,62 +20,48 @@ copied r =
       rw (tail-is (s .src .now) (s .at) (n .result) (n .ensures)) at (r .before .before .copy .ensures),
     )
 
--- src/part.rt:57:9
 least-requires : tie.Need-least-requires
 least-requires c κs = search needs
 
--- src/part.rt:58:15
 sub-copy : tie.Need-sub-copy
 sub-copy c = search needs
 
--- src/part.rt:58:15
 part-copy-start : tie.Need-part-copy-start
 part-copy-start c = search needs
 
--- src/part.rt:58:15
 part-copy-end : tie.Need-part-copy-end
 part-copy-end c = search needs
 
--- src/part.rt:58:5
 copy-requires : tie.Need-copy-requires
 copy-requires c κs = search needs
 
--- src/part.rt:59:16
 sub-have : tie.Need-sub-have
 sub-have c = search needs
 
--- src/part.rt:61:14
 sub-fill : tie.Need-sub-fill
 sub-fill c = search needs
 
--- src/part.rt:61:14
 part-fill-start : tie.Need-part-fill-start
 part-fill-start c = search needs
 
--- src/part.rt:61:14
 part-fill-end : tie.Need-part-fill-end
 part-fill-end c = search needs
 
--- src/part.rt:61:9
 fill-requires : tie.Need-fill-requires
 fill-requires c κs = search needs
 
--- src/part.rt:54:1
 same-length : tie.Need-same-length
 same-length c = search needs
 
--- src/part.rt:54:1
 returns : tie.Need-returns
 returns c = let r = c .before .before .before .before .before in
     let s = r .before .before .before .before .before .before .before .before .args in
     rw (c .before .before .fill .ensures, copied r .1, ← (copied r .0), length-overwrite 0 (drop (s .at) (s .src .now)) (s .dst .now))
     (part-padded (drop (s .at) (s .src .now)) (s .dst .now) (omega (arith, copied r, c .before .before .before .before .if1 .taken, r .before .before .copy .kept .0)))
 
--- src/part.rt:54:1
 same-length-2 : tie.Need-same-length-2
 same-length-2 c = search needs
 
--- src/part.rt:54:1
 returns-2 : tie.Need-returns-2
 returns-2 c = let r = c .before in
     let s = r .before .before .before .before .before .before .before .before .args in

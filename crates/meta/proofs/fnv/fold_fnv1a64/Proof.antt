@@ -1,8 +1,7 @@
 -- `meta::fold_fnv1a64` meets its contract: what is left, taken on from the present hash, is the whole.
 use mathlib.Core.Path.{_≡_, refl, sym, _∙_}
 use mathlib.Core.List.{_∷_}
-use Prim.Native.Nat.{ℕ, _+_, _-_, _≤_, _<_}
-use native.Mathlib.Omega.{arith}
+use Prim.Native.Nat.{_+_, _-_, _≤_, _<_}
 use native.Mathlib.Numerals.{add-one}
 use lib.ListN.{length, drop, getD, drop-of-length-le}
 use lib.Seq.{drop-cons}
@@ -10,9 +9,6 @@ use borrow.Author.Needs.{needs}
 use Rattle.meta.specs.Fnv.{fold, fold-nil, fold-cons}
 use Rattle.meta.proofs.fnv.fold_fnv1a64.Statement.{statement}
 use Rattle.meta.proofs.fnv.fold_fnv1a64.Tie as tie
-use Rattle.meta.proofs.fnv.fold_fnv1a64.Reads as reads
-use Rattle.meta.proofs.fnv.fold_fnv1a64.Lts as lts
-use Rattle.meta.proofs.fnv.step.Reads as step-reads
 
 abbrev Inv-loop : tie.InvT-loop
 Inv-loop hash bytes out₀ i₀ out i = (i ≤ length bytes) × (fold out (drop i bytes) ≡ fold hash bytes)
@@ -20,27 +16,21 @@ Inv-loop hash bytes out₀ i₀ out i = (i ≤ length bytes) × (fold out (drop 
 abbrev μ-loop : tie.MeasureT-loop
 μ-loop hash bytes out₀ i₀ out i = length bytes - i
 
--- src/fnv.rt:33:5
 loop-holds : tie.Need-loop-holds Inv-loop μ-loop
 loop-holds c = (search needs, refl)
 
--- src/fnv.rt:34:25
 shared-slice-read-step : tie.Need-shared-slice-read-step Inv-loop μ-loop
 shared-slice-read-step c = search needs
 
--- src/fnv.rt:34:9
 step-requires : tie.Need-step-requires Inv-loop μ-loop
 step-requires c κs = search needs
 
--- src/fnv.rt:35:9
 add-i : tie.Need-add-i Inv-loop μ-loop
 add-i c = search needs
 
--- src/fnv.rt:33:5
 loop-less : tie.Need-loop-less Inv-loop μ-loop
 loop-less c = search needs
 
--- src/fnv.rt:33:5
 loop-again : tie.Need-loop-again Inv-loop μ-loop
 loop-again c = let at = c .before .before .before in
     let s = at .before .before .args .bytes .now in
@@ -48,7 +38,6 @@ loop-again c = let at = c .before .before .before in
     let e : drop (at .loop .i) s ≡ getD s (at .loop .i) 0 ∷ drop (at .loop .i + 1) s = rw (add-one, drop-cons s (at .loop .i) 0) in
     (search needs, rw (c .step .ensures, ← (fold-cons (at .loop .out) (getD s (at .loop .i) 0) (drop (at .loop .i + 1) s)), ← e) (at .loop .inv .1))
 
--- src/fnv.rt:28:1
 returns : tie.Need-returns Inv-loop μ-loop
 returns c = let at = c .before in
     let s = at .before .before .args .bytes .now in

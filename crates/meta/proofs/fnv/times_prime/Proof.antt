@@ -1,14 +1,11 @@
+-- `meta::times_prime` meets its contract: of the product's parts, those past 2^64 fall away.
 use mathlib.Core.Path.{_≡_, sym, ap, _∙_}
 use Prim.Native.Nat.{ℕ, _+_, _*_, _/_, _%_}
 use native.Mathlib.Nat.{add-mul-mod-self-right, mod-add-mod}
--- `meta::times_prime` meets its contract: of the product's parts, those past 2^64 fall away.
 use native.Mathlib.Omega.{arith}
 use borrow.Author.Needs.{needs}
 use Rattle.meta.proofs.fnv.times_prime.Statement.{statement}
 use Rattle.meta.proofs.fnv.times_prime.Tie as tie
-use Rattle.meta.proofs.fnv.times_prime.Reads as reads
-use Rattle.meta.proofs.fnv.times_prime.Lts as lts
-use Rattle.std.proofs.num.wrapping_add_u64.Reads as wrapping-add-u64-reads
 
 -- what the parts lose by their remainders is a multiple of 2^64
 parts : (x : ℕ) → x * 1099511628211 ≡ x % 4294967296 * 435 + x / 4294967296 * 435 % 4294967296 * 4294967296 + x % 16777216 * 1099511627776 + (x / 4294967296 * 435 / 4294967296 + x / 16777216) * 18446744073709551616
@@ -21,31 +18,24 @@ product x a r p q =
     q ∙ rw p (mod-add-mod s 18446744073709551616 (x % 16777216 * 1099511627776))
     ∙ sym (ap (λ (n : ℕ). n % 18446744073709551616) (parts x) ∙ add-mul-mod-self-right (s + x % 16777216 * 1099511627776) _ 18446744073709551616)
 
--- src/fnv.rt:15:15
 mul-low : tie.Need-mul-low
 mul-low c = search needs
 
--- src/fnv.rt:16:17
 mul-high : tie.Need-mul-high
 mul-high c = search needs
 
--- src/fnv.rt:16:16
 mul-high-2 : tie.Need-mul-high-2
 mul-high-2 c = search needs
 
--- src/fnv.rt:17:19
 mul-shifted : tie.Need-mul-shifted
 mul-shifted c = search needs
 
--- src/fnv.rt:18:32
 wrapping-add-u64-requires : tie.Need-wrapping-add-u64-requires
 wrapping-add-u64-requires c κs = search needs
 
--- src/fnv.rt:18:5
 wrapping-add-u64-requires-2 : tie.Need-wrapping-add-u64-requires-2
 wrapping-add-u64-requires-2 c κs = search needs
 
--- src/fnv.rt:12:1
 returns : tie.Need-returns
 returns c = product (c .before .before .args .x) (c .before .wrapping-add-u64 .result) (c .wrapping-add-u642 .result) (c .before .wrapping-add-u64 .ensures) (c .wrapping-add-u642 .ensures)
 

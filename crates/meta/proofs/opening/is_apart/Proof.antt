@@ -2,43 +2,33 @@
 use mathlib.Core.Path.{sym}
 use Prim.Native.Nat.{_+_, _<_}
 use native.Mathlib.Omega.{arith}
-use Rattle.meta.specs.Runs.{apart-empty, apart-last, apart-next}
 use borrow.Author.Needs.{needs}
+use Rattle.meta.specs.Runs.{apart-empty, apart-last, apart-next}
 use Rattle.meta.proofs.opening.is_apart.Statement.{statement}
 use Rattle.meta.proofs.opening.is_apart.Tie as tie
-use Rattle.meta.proofs.opening.is_apart.Reads as reads
-use Rattle.meta.proofs.opening.is_apart.Lts as lts
-use Rattle.meta.proofs.opening.extent_at.Reads as extent-at-reads
 
--- src/opening.rt:41:9
 extent-at-requires : tie.Need-extent-at-requires
 extent-at-requires c κs = search needs
 
--- src/opening.rt:43:9
 returns : tie.Need-returns
 returns c = let s = c .before .before .before .before in
     let x = c .before .before .extent-at in
     sym (apart-empty (s .args .n) (s .args .i) (s .args .bytes .now) (x .result) (x .ensures) (s .pre .0) (c .if1 .taken))
 
--- src/opening.rt:45:8
 add-if2 : tie.Need-add-if2
 add-if2 c = search needs
 
--- src/opening.rt:46:9
 returns-2 : tie.Need-returns-2
 returns-2 c = let s = c .before .before .before .before .before in
     let x = c .before .before .before .extent-at in
     sym (apart-last (s .args .n) (s .args .i) (s .args .bytes .now) (x .result) (x .ensures) (c .if2 .taken) (c .before .if1 .left))
 
--- src/opening.rt:48:30
 add-extent-at : tie.Need-add-extent-at
 add-extent-at c = search needs
 
--- src/opening.rt:48:9
 extent-at-requires-2 : tie.Need-extent-at-requires-2
 extent-at-requires-2 c κs = search needs
 
--- src/opening.rt:37:1
 returns-3 : tie.Need-returns-3
 returns-3 c = let s = c .before .before .before .before .before .before .before .before in
     let x = c .before .before .before .before .before .before .extent-at in

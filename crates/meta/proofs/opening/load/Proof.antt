@@ -1,26 +1,18 @@
-use Rattle.config.specs.declared.refusal.Refusal.the-variants.{MetaChecksumMismatch}
-use Rattle.meta.specs.declared.opening.Loaded.the-variants.{Block, Refused}
 -- `meta::load` meets its contract: the tests in their order, on the block as decoded.
-use mathlib.Core.Path.{_≡_, refl, sym, ap, _∙_}
-use mathlib.Core.Bool.{Bool, true, false}
-use mathlib.Core.List.{List, []}
-use Prim.Native.Nat.{ℕ, _≤_}
+use mathlib.Core.Path.{_≡_, sym, ap, _∙_}
+use mathlib.Core.List.{[]}
+use Prim.Native.Nat.{_≤_}
 use native.Mathlib.Omega.{arith}
 use lib.ListN.{length}
+use borrow.Author.Needs.{needs}
+use Rattle.config.specs.declared.refusal.Refusal.the-variants.{MetaChecksumMismatch}
+use Rattle.meta.specs.declared.opening.Loaded.the-variants.{Block, Refused}
 use Rattle.meta.specs.Runs.{normalized as isNormalized}
 use Rattle.meta.specs.BlockLaws.{encodedLen-lo, encodedLen-hi}
-use Rattle.meta.specs.Load.{load as loaded}
-use Rattle.meta.specs.Load.{pick, judge, blockRuns, checksumIn}
+use Rattle.meta.specs.Load.{load as loaded, pick, blockRuns, checksumIn}
 use Rattle.meta.specs.LoadLaws.{judge-foreign, judge-version, judge-layout, judge-count, judge-sum, judge-runs, load-is, sum-is, runs-are}
-use borrow.Author.Needs.{needs}
 use Rattle.meta.proofs.opening.load.Statement.{statement}
 use Rattle.meta.proofs.opening.load.Tie as tie
-use Rattle.meta.proofs.opening.load.Reads as reads
-use Rattle.meta.proofs.opening.load.Lts as lts
-use Rattle.meta.proofs.opening.checksum_of.Reads as checksum-of-reads
-use Rattle.meta.proofs.opening.normalized.Reads as normalized-reads
-use Rattle.meta.proofs.superblock.Superblock.decode.Reads as decode-reads
-use Rattle.meta.proofs.superblock.Superblock.encoded_len.Reads as encoded-len-reads
 
 -- the bytes that are hashed are those of a block, and in the slice
 module _ (c : tie.After-encoded-len) where
@@ -57,50 +49,41 @@ sorted c =
     let s = d .before .before in
     c .normalized .ensures ∙ ap isNormalized (runs-are (s .args .bytes .now) (d .decode .result) (d .decode .ensures) (e .encoded-len .result) (e .encoded-len .ensures) (s .pre) (e .before .if4 .left))
 
--- src/opening.rt:83:9
 decode-requires : tie.Need-decode-requires
 decode-requires c κs = search needs
 
--- src/opening.rt:85:9
 returns : tie.Need-returns
 returns c = let s = c .before .before .before .before .args .bytes .now in
     let d = c .before .before .decode in
     sym (load-is s (d .result) (d .ensures) ∙ judge-foreign (d .result) _ _ (c .if1 .taken))
 
--- src/opening.rt:88:66
 cast-t6 : tie.Need-cast-t6
 cast-t6 c = search needs
 
--- src/opening.rt:88:9
 returns-2 : tie.Need-returns-2
 returns-2 c = let p = c .before .before .before in
     let s = p .before .before .before .before .args .bytes .now in
     let d = p .before .before .decode in
     sym (load-is s (d .result) (d .ensures) ∙ judge-version (d .result) _ _ (p .if1 .left) (c .before .if2 .taken))
 
--- src/opening.rt:91:9
 returns-3 : tie.Need-returns-3
 returns-3 c = let p = c .before .before .before .before in
     let s = p .before .before .before .before .args .bytes .now in
     let d = p .before .before .decode in
     sym (load-is s (d .result) (d .ensures) ∙ judge-layout (d .result) _ _ (p .if1 .left) (c .before .before .if2 .left) (c .if3 .taken))
 
--- src/opening.rt:94:9
 returns-4 : tie.Need-returns-4
 returns-4 c = let p = c .before .before .before .before .before .before in
     let s = p .before .before .before .before .args .bytes .now in
     let d = p .before .before .decode in
     sym (load-is s (d .result) (d .ensures) ∙ judge-count (d .result) _ _ (p .if1 .left) (c .before .before .before .before .if2 .left) (c .before .before .if3 .left) (c .if4 .taken))
 
--- src/opening.rt:96:9
 encoded-len-requires : tie.Need-encoded-len-requires
 encoded-len-requires c κs = search needs
 
--- src/opening.rt:97:31
 checksum-of-requires : tie.Need-checksum-of-requires
 checksum-of-requires c κs = (lo c, hi c)
 
--- src/opening.rt:98:9
 returns-5 : tie.Need-returns-5
 returns-5 c = let p = c .before .before .before .before in
     let q = p .before .before .before .before .before .before in
@@ -110,27 +93,21 @@ returns-5 c = let p = c .before .before .before .before in
     ∙ judge-sum (d .result) (checksumIn s) (isNormalized (blockRuns s)) (q .if1 .left) (p .before .before .before .before .if2 .left) (p .before .before .if3 .left) (p .if4 .left)
     (λ e. c .if5 .taken (e ∙ sym (sum (c .before .before)))))
 
--- src/opening.rt:100:19
 sub-normalized : tie.Need-sub-normalized
 sub-normalized c = lo (c .before .before .before)
 
--- src/opening.rt:100:19
 part-normalized-start : tie.Need-part-normalized-start
 part-normalized-start c = lo (c .before .before .before)
 
--- src/opening.rt:100:19
 part-normalized-end : tie.Need-part-normalized-end
 part-normalized-end c = hi (c .before .before .before)
 
--- src/opening.rt:100:8
 normalized-requires : tie.Need-normalized-requires
 normalized-requires c κs = search needs
 
--- src/opening.rt:101:9
 returns-6 : tie.Need-returns-6
 returns-6 c = sym (runs (c .before .before .before) ∙ rw (sym (sorted (c .before)) ∙ c .if6 .taken))
 
--- src/opening.rt:79:1
 returns-7 : tie.Need-returns-7
 returns-7 c = sym (runs (c .before .before .before) ∙ rw (sym (sorted (c .before)) ∙ c .if6 .left))
 

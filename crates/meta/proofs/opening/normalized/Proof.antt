@@ -1,17 +1,13 @@
-use borrow.Author.Tests.{not-true, not-false}
 -- `meta::normalized` meets its contract: the runs from `i` on are normalized exactly when all are.
 use mathlib.Core.Path.{_≡_, refl, sym, ap, _∙_}
-use Prim.Native.Nat.{ℕ, _*_, _-_, _/_, _≤_}
+use Prim.Native.Nat.{_*_, _-_, _/_, _≤_}
 use native.Mathlib.Omega.{arith}
 use lib.ListN.{length, drop}
+use borrow.Author.Tests.{not-true, not-false}
 use borrow.Author.Needs.{needs}
-use Rattle.meta.specs.Runs.{runsIn, runsIn-end, normalized-nil, normalized-turn, normalized-stop}
-use Rattle.meta.specs.Runs.{normalized as isNormalized}
+use Rattle.meta.specs.Runs.{runsIn, runsIn-end, normalized-nil, normalized-turn, normalized-stop, normalized as isNormalized}
 use Rattle.meta.proofs.opening.normalized.Statement.{statement}
 use Rattle.meta.proofs.opening.normalized.Tie as tie
-use Rattle.meta.proofs.opening.normalized.Reads as reads
-use Rattle.meta.proofs.opening.normalized.Lts as lts
-use Rattle.meta.proofs.opening.is_apart.Reads as is-apart-reads
 
 abbrev Inv-loop : tie.InvT-loop
 Inv-loop bytes n i₀ i = (i ≤ n) × (isNormalized (runsIn (n - i) (drop (i * 16) bytes)) ≡ isNormalized (runsIn n bytes))
@@ -19,37 +15,30 @@ Inv-loop bytes n i₀ i = (i ≤ n) × (isNormalized (runsIn (n - i) (drop (i * 
 abbrev μ-loop : tie.MeasureT-loop
 μ-loop bytes n i₀ i = n - i
 
--- src/opening.rt:58:5
 loop-holds : tie.Need-loop-holds Inv-loop μ-loop
 loop-holds c = let n = length (c .before .args .bytes .now) / 16 in
     let e : n - 0 ≡ n = omega arith in
     (search needs, rw e refl)
 
--- src/opening.rt:59:13
 is-apart-requires : tie.Need-is-apart-requires Inv-loop μ-loop
 is-apart-requires c κs = search needs
 
--- src/opening.rt:60:13
 returns : tie.Need-returns Inv-loop μ-loop
 returns c = let at = c .before .before .before in
     let b = at .before .before .args .bytes .now in
     sym (sym (at .loop .inv .1) ∙ normalized-stop (length b / 16) (at .loop .i) b (c .before .before .loop-test .taken) (sym (c .before .is-apart .ensures) ∙ not-true (c .before .is-apart .result) (c .if1 .taken)))
 
--- src/opening.rt:62:9
 add-i : tie.Need-add-i Inv-loop μ-loop
 add-i c = search needs
 
--- src/opening.rt:58:5
 loop-less : tie.Need-loop-less Inv-loop μ-loop
 loop-less c = search needs
 
--- src/opening.rt:58:5
 loop-again : tie.Need-loop-again Inv-loop μ-loop
 loop-again c = let at = c .before .before .before in
     let b = at .before .before .args .bytes .now in
     (search needs, sym (normalized-turn (length b / 16) (at .loop .i) b (c .before .before .loop-test .taken) (sym (c .before .is-apart .ensures) ∙ not-false (c .before .is-apart .result) (c .if1 .left))) ∙ at .loop .inv .1)
 
--- src/opening.rt:53:1
 returns-2 : tie.Need-returns-2 Inv-loop μ-loop
 returns-2 c = let at = c .before in
     let b = at .before .before .args .bytes .now in

@@ -1,21 +1,16 @@
 -- `meta::field_offset` meets its contract: the table's entries are 16, 24, .. 152.
+use borrow.Author.Needs.{needs}
 use Rattle.meta.specs.Block.{fieldOffset}
 use Rattle.meta.specs.Table.{value-at}
-use borrow.Author.Needs.{needs}
 use Rattle.meta.proofs.superblock.field_offset.Statement.{statement}
 use Rattle.meta.proofs.superblock.field_offset.Tie as tie
-use Rattle.meta.proofs.superblock.field_offset.Reads as reads
-use Rattle.meta.proofs.superblock.field_offset.Lts as lts
 
--- src/superblock.rt:71:5
 mul-result : tie.Need-mul-result
 mul-result c = search needs
 
--- src/superblock.rt:71:5
 array-read-result : tie.Need-array-read-result
 array-read-result c = search needs
 
--- src/superblock.rt:67:1
 returns : tie.Need-returns
 unfolding fieldOffset
 returns c = value-at fieldOffset 18 (c .args .k) (c .pre)

@@ -1,20 +1,16 @@
-use Rattle.meta.specs.Block.{fieldOffset, offset-is}
 -- `meta::write_fields` meets its contract: before each turn the first `k` numbers are written.
-use mathlib.Core.Path.{_≡_, refl, sym, ap, _∙_}
-use Prim.Native.Nat.{ℕ, _+_, _*_, _-_, _≤_, _<_}
+use mathlib.Core.Path.{_≡_, refl, sym, _∙_}
+use Prim.Native.Nat.{_-_, _≤_, _<_}
 use native.Mathlib.Omega.{arith}
 use lib.ListN.{length, take}
 use lib.Seq.{take-all}
 use borrow.Author.Needs.{needs}
+use Rattle.meta.specs.Block.{offset-is}
 use Rattle.memory.specs.Bytes.{overwrite}
-use Rattle.memory.specs.Laws.{overwrite-nil, length-overwrite}
+use Rattle.memory.specs.Laws.{overwrite-nil}
 use Rattle.meta.specs.Words.{words, words-more}
 use Rattle.meta.proofs.superblock.write_fields.Statement.{statement}
 use Rattle.meta.proofs.superblock.write_fields.Tie as tie
-use Rattle.meta.proofs.superblock.write_fields.Reads as reads
-use Rattle.meta.proofs.superblock.write_fields.Lts as lts
-use Rattle.meta.proofs.superblock.field_offset.Reads as field-offset-reads
-use Rattle.meta.proofs.word.write_word.Reads as write-word-reads
 
 abbrev Inv-loop : tie.InvT-loop
 Inv-loop out₀ fields k₀ out k = (k ≤ 18) × (length out ≡ length out₀) × (out ≡ overwrite 16 (words (take k fields)) out₀)
@@ -22,35 +18,27 @@ Inv-loop out₀ fields k₀ out k = (k ≤ 18) × (length out ≡ length out₀)
 abbrev μ-loop : tie.MeasureT-loop
 μ-loop out₀ fields k₀ out k = 18 - k
 
--- src/superblock.rt:79:5
 loop-holds : tie.Need-loop-holds Inv-loop μ-loop
 loop-holds c = (search needs, refl, sym (overwrite-nil _ _))
 
--- src/superblock.rt:80:25
 field-offset-requires : tie.Need-field-offset-requires Inv-loop μ-loop
 field-offset-requires c κs = search needs
 
--- src/superblock.rt:80:42
 mul-write-word : tie.Need-mul-write-word Inv-loop μ-loop
 mul-write-word c = search needs
 
--- src/superblock.rt:80:42
 shared-slice-read-write-word : tie.Need-shared-slice-read-write-word Inv-loop μ-loop
 shared-slice-read-write-word c = search needs
 
--- src/superblock.rt:80:9
 write-word-requires : tie.Need-write-word-requires Inv-loop μ-loop
 write-word-requires c κs = omega (arith, c .before .field-offset .ensures ∙ offset-is (c .before .before .before .before .loop .k))
 
--- src/superblock.rt:81:9
 add-k : tie.Need-add-k Inv-loop μ-loop
 add-k c = search needs
 
--- src/superblock.rt:79:5
 loop-less : tie.Need-loop-less Inv-loop μ-loop
 loop-less c = search needs
 
--- src/superblock.rt:79:5
 loop-again : tie.Need-loop-again Inv-loop μ-loop
 loop-again c = let at = c .before .before .before .before .before .before .before in
     let s = at .before .before .before .args in
@@ -61,11 +49,9 @@ loop-again c = let at = c .before .before .before .before .before .before .befor
       c .before .before .write-word .ensures ∙ rw (f .ensures ∙ offset-is (at .loop .k), at .loop .inv .2) (words-more (s .fields .now) (s .out .now) 16 (at .loop .k) h),
     )
 
--- src/superblock.rt:74:1
 same-length : tie.Need-same-length Inv-loop μ-loop
 same-length c = c .before .loop .inv .1
 
--- src/superblock.rt:74:1
 returns : tie.Need-returns Inv-loop μ-loop
 returns c = let at = c .before in
     let s = at .before .before .before .args in

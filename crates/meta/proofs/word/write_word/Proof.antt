@@ -3,113 +3,86 @@ use mathlib.Core.Path.{_∙_, ap, sym}
 use mathlib.Core.List.{List}
 use Prim.Native.Nat.{ℕ}
 use native.Mathlib.Numerals.{towards-suc}
-use Rattle.memory.specs.Bytes.{overwrite}
-use Rattle.meta.specs.Words.{eight, word-eight, sets-overwrite}
 use native.Mathlib.Omega.{arith}
 use lib.ListN.{length-set}
 use borrow.Author.Needs.{needs}
+use Rattle.memory.specs.Bytes.{overwrite}
+use Rattle.meta.specs.Words.{eight, word-eight, sets-overwrite}
 use Rattle.meta.proofs.word.write_word.Statement.{statement}
 use Rattle.meta.proofs.word.write_word.Tie as tie
-use Rattle.meta.proofs.word.write_word.Reads as reads
-use Rattle.meta.proofs.word.write_word.Lts as lts
 
--- src/word.rt:34:17
 cast-bytes : tie.Need-cast-bytes
 cast-bytes c = search needs
 
--- src/word.rt:34:5
 slice-write-bytes : tie.Need-slice-write-bytes
 slice-write-bytes c = search needs
 
--- src/word.rt:35:21
 cast-bytes-2 : tie.Need-cast-bytes-2
 cast-bytes-2 c = search needs
 
--- src/word.rt:35:11
 add-bytes : tie.Need-add-bytes
 add-bytes c = search needs
 
--- src/word.rt:35:5
 slice-write-bytes-2 : tie.Need-slice-write-bytes-2
 slice-write-bytes-2 c = simp length-set (omega arith)
 
--- src/word.rt:36:21
 cast-bytes-3 : tie.Need-cast-bytes-3
 cast-bytes-3 c = search needs
 
--- src/word.rt:36:11
 add-bytes-2 : tie.Need-add-bytes-2
 add-bytes-2 c = search needs
 
--- src/word.rt:36:5
 slice-write-bytes-3 : tie.Need-slice-write-bytes-3
 slice-write-bytes-3 c = simp length-set (omega arith)
 
--- src/word.rt:37:21
 cast-bytes-4 : tie.Need-cast-bytes-4
 cast-bytes-4 c = search needs
 
--- src/word.rt:37:11
 add-bytes-3 : tie.Need-add-bytes-3
 add-bytes-3 c = search needs
 
--- src/word.rt:37:5
 slice-write-bytes-4 : tie.Need-slice-write-bytes-4
 slice-write-bytes-4 c = simp length-set (omega arith)
 
--- src/word.rt:38:21
 cast-bytes-5 : tie.Need-cast-bytes-5
 cast-bytes-5 c = search needs
 
--- src/word.rt:38:11
 add-bytes-4 : tie.Need-add-bytes-4
 add-bytes-4 c = search needs
 
--- src/word.rt:38:5
 slice-write-bytes-5 : tie.Need-slice-write-bytes-5
 slice-write-bytes-5 c = simp length-set (omega arith)
 
--- src/word.rt:39:21
 cast-bytes-6 : tie.Need-cast-bytes-6
 cast-bytes-6 c = search needs
 
--- src/word.rt:39:11
 add-bytes-5 : tie.Need-add-bytes-5
 add-bytes-5 c = search needs
 
--- src/word.rt:39:5
 slice-write-bytes-6 : tie.Need-slice-write-bytes-6
 slice-write-bytes-6 c = simp length-set (omega arith)
 
--- src/word.rt:40:21
 cast-bytes-7 : tie.Need-cast-bytes-7
 cast-bytes-7 c = search needs
 
--- src/word.rt:40:11
 add-bytes-6 : tie.Need-add-bytes-6
 add-bytes-6 c = search needs
 
--- src/word.rt:40:5
 slice-write-bytes-7 : tie.Need-slice-write-bytes-7
 slice-write-bytes-7 c = simp length-set (omega arith)
 
--- src/word.rt:41:21
 cast-bytes-8 : tie.Need-cast-bytes-8
 cast-bytes-8 c = search needs
 
--- src/word.rt:41:11
 add-bytes-7 : tie.Need-add-bytes-7
 add-bytes-7 c = search needs
 
--- src/word.rt:41:5
 slice-write-bytes-8 : tie.Need-slice-write-bytes-8
 slice-write-bytes-8 c = simp length-set (omega arith)
 
--- src/word.rt:30:1
 same-length : tie.Need-same-length
 same-length c = simp length-set
 
--- src/word.rt:30:1
 returns : tie.Need-returns
 returns c = let x = c .args .x in
     let s = c .args .bytes .now in

@@ -1,12 +1,9 @@
 -- `config::Refusal::numbers` meets its contract: each arm is told which refusal it has.
 use mathlib.Core.Path.{sym, ap, _∙_}
-use Rattle.config.specs.Refusals.{numbersOf}
 use borrow.Author.Needs.{needs}
+use Rattle.config.specs.Refusals.{numbersOf}
 use Rattle.config.proofs.refusal.Refusal.numbers.Statement.{statement}
 use Rattle.config.proofs.refusal.Refusal.numbers.Tie as tie
-use Rattle.config.proofs.refusal.Refusal.numbers.Reads as reads
-use Rattle.config.proofs.refusal.Refusal.numbers.Lts as lts
-use Rattle.config.proofs.refusal.these.Reads as these-reads
 
 enum-told : tie.Need-enum-told
 enum-told c = search needs

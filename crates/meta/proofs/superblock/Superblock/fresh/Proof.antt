@@ -1,33 +1,25 @@
 -- `meta::Superblock::fresh` meets its contract.
-use mathlib.Core.Path.{_≡_, refl, ap, _∙_}
+use mathlib.Core.Path.{refl, ap}
+use borrow.Author.Needs.{needs}
 use Rattle.memory.specs.Bytes.{zeros}
 use Rattle.meta.specs.Block.{fresh as freshBlock}
 use Rattle.meta.specs.Stored.{Outcome}
-use borrow.Author.Needs.{needs}
 use Rattle.meta.proofs.superblock.Superblock.fresh.Statement.{statement}
 use Rattle.meta.proofs.superblock.Superblock.fresh.Tie as tie
-use Rattle.meta.proofs.superblock.Superblock.fresh.Reads as reads
-use Rattle.meta.proofs.superblock.Superblock.fresh.Lts as lts
-use Rattle.meta.proofs.superblock.Superblock.seal.Reads as seal-reads
 
--- src/superblock.rt:265:20
 array-share-prefix-none : tie.Need-array-share-prefix-none
 array-share-prefix-none c = search needs
 
--- src/superblock.rt:265:20
 slice-aggregate-seal : tie.Need-slice-aggregate-seal
 slice-aggregate-seal c = search needs
 
--- src/superblock.rt:265:32
 slice-aggregate-seal-2 : tie.Need-slice-aggregate-seal-2
 slice-aggregate-seal-2 c = search needs
 
--- src/superblock.rt:265:9
 seal-requires : tie.Need-seal-requires
 unfolding zeros
 seal-requires c κs = refl
 
--- src/superblock.rt:237:5
 returns : tie.Need-returns
 unfolding freshBlock
 returns c = ap (λ (o : Outcome). o .block) (c .before .seal .ensures)

@@ -3,8 +3,6 @@ use lib.Seq.{getD-drop}
 use borrow.Author.Needs.{needs}
 use Rattle.meta.proofs.superblock.Superblock.of_numbers.Statement.{statement}
 use Rattle.meta.proofs.superblock.Superblock.of_numbers.Tie as tie
-use Rattle.meta.proofs.superblock.Superblock.of_numbers.Reads as reads
-use Rattle.meta.proofs.superblock.Superblock.of_numbers.Lts as lts
 
 shared-slice-read-t3 : tie.Need-shared-slice-read-t3
 shared-slice-read-t3 c = search needs

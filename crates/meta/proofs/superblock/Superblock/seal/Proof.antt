@@ -1,29 +1,18 @@
 -- `meta::Superblock::seal` meets its contract: the block is encoded with checksum 0, hashed, and its checksum's eight bytes written.
-use mathlib.Core.Path.{_≡_, refl, sym, ap, _∙_}
+use mathlib.Core.Path.{_≡_, ap, _∙_}
 use mathlib.Core.List.{List, []}
 use Prim.Native.Nat.{ℕ, _≤_}
 use native.Mathlib.Omega.{arith}
 use lib.ListN.{length, take, length-take}
-use Rattle.memory.specs.Bytes.{zeros, overwrite}
+use borrow.Author.Needs.{needs}
 use Rattle.memory.specs.Laws.{length-zeros}
 use Rattle.meta.specs.declared.superblock.Superblock.{Superblock}
 use Rattle.meta.specs.Fnv.{fnv1a64 as hashed}
-use Rattle.meta.specs.Words.{word}
-use Rattle.meta.specs.Block.{blockBytes, sealedBy, checksumOf, prefix, encodedLen}
-use Rattle.meta.specs.Block.{encode as encoded}
-use Rattle.meta.specs.Block.{seal as sealed}
-use Rattle.meta.specs.BlockLaws.{encode-is, length-encode, encodedLen-lo, encodedLen-hi, reseal}
+use Rattle.meta.specs.Block.{sealedBy, checksumOf, prefix, encodedLen, encode as encoded, seal as sealed}
+use Rattle.meta.specs.BlockLaws.{encode-is, length-encode, encodedLen-hi, reseal}
 use Rattle.meta.specs.Stored.{outcome}
-use borrow.Author.Needs.{needs}
 use Rattle.meta.proofs.superblock.Superblock.seal.Statement.{statement}
 use Rattle.meta.proofs.superblock.Superblock.seal.Tie as tie
-use Rattle.meta.proofs.superblock.Superblock.seal.Reads as reads
-use Rattle.meta.proofs.superblock.Superblock.seal.Lts as lts
-use Rattle.meta.proofs.fnv.fnv1a64.Reads as fnv1a64-reads
-use Rattle.meta.proofs.superblock.Superblock.encode.Reads as encode-reads
-use Rattle.meta.proofs.superblock.Superblock.encoded_len.Reads as encoded-len-reads
-use Rattle.meta.proofs.superblock.Superblock.sealed_by.Reads as sealed-by-reads
-use Rattle.meta.proofs.word.write_word.Reads as write-word-reads
 
 -- the array holds the block with checksum 0
 blank : (c : tie.After-slice-known2) → let s = c .before .before .before .before .before .before .before .args in
@@ -40,43 +29,33 @@ whole c = let s = c .before .before .before .before .before .before .before .arg
 fits : (c : tie.After-encoded-len) → c .encoded-len .result ≤ length (c .before .before .before .encode .last .1 .1 .0)
 fits c = let b = c .before .before .before .before .before .sealed-by .result in omega (arith, c .encoded-len .ensures, encodedLen-hi b [], whole (c .before))
 
--- src/superblock.rt:228:13
 sealed-by-requires : tie.Need-sealed-by-requires
 sealed-by-requires c κs = search needs
 
--- src/superblock.rt:229:9
 encode-requires : tie.Need-encode-requires
 encode-requires c κs = ap length (c .before .before .before .before .pre) ∙ length-zeros 16544
 
--- src/superblock.rt:230:13
 encoded-len-requires : tie.Need-encoded-len-requires
 encoded-len-requires c κs = search needs
 
--- src/superblock.rt:231:32
 slice-reshare-prefix-fnv1a64 : tie.Need-slice-reshare-prefix-fnv1a64
 slice-reshare-prefix-fnv1a64 c = fits c
 
--- src/superblock.rt:231:32
 slice-aggregate-fnv1a64 : tie.Need-slice-aggregate-fnv1a64
 slice-aggregate-fnv1a64 c = simp length-take (omega (arith, fits (c .before)))
 
--- src/superblock.rt:231:13
 fnv1a64-requires : tie.Need-fnv1a64-requires
 fnv1a64-requires c κs = search needs
 
--- src/superblock.rt:232:9
 write-word-requires : tie.Need-write-word-requires
 write-word-requires c κs = omega (arith, whole (c .before .before .before .before))
 
--- src/superblock.rt:233:9
 sealed-by-requires-2 : tie.Need-sealed-by-requires-2
 sealed-by-requires-2 c κs = search needs
 
--- src/superblock.rt:224:5
 same-length : tie.Need-same-length
 same-length c = search needs
 
--- src/superblock.rt:224:5
 returns : tie.Need-returns
 unfolding sealed checksumOf prefix
 returns c = let w = c .before .before .before in

@@ -1,24 +1,16 @@
 -- `meta::Superblock::store` meets its contract: the sealed block's prefix goes to the front of memory.
 use mathlib.Core.Path.{_≡_, refl, ap, _∙_}
-use mathlib.Core.List.{List, []}
-use Prim.Native.Nat.{ℕ, _≤_}
+use mathlib.Core.List.{[]}
+use Prim.Native.Nat.{_≤_}
 use native.Mathlib.Omega.{arith}
 use lib.ListN.{length, take, length-take}
+use borrow.Author.Needs.{needs}
 use Rattle.memory.specs.Bytes.{zeros, overwrite}
-use Rattle.meta.specs.declared.superblock.Superblock.{Superblock}
-use Rattle.meta.specs.Block.{encodedLen, prefix, storeIn}
-use Rattle.meta.specs.Block.{encode as encoded}
-use Rattle.meta.specs.Block.{seal as sealed}
+use Rattle.meta.specs.Block.{encodedLen, prefix, storeIn, encode as encoded, seal as sealed}
 use Rattle.meta.specs.BlockLaws.{length-encode, encodedLen-hi}
 use Rattle.meta.specs.Stored.{Outcome, outcome}
-use borrow.Author.Needs.{needs}
 use Rattle.meta.proofs.superblock.Superblock.store.Statement.{statement}
 use Rattle.meta.proofs.superblock.Superblock.store.Tie as tie
-use Rattle.meta.proofs.superblock.Superblock.store.Reads as reads
-use Rattle.meta.proofs.superblock.Superblock.store.Lts as lts
-use Rattle.memory.proofs.copy.Reads as copy-reads
-use Rattle.meta.proofs.superblock.Superblock.encoded_len.Reads as encoded-len-reads
-use Rattle.meta.proofs.superblock.Superblock.seal.Reads as seal-reads
 
 -- the array holds the sealed block
 whole : (c : tie.After-encoded-len) → let s = c .before .before .before .before .before .before .args in
@@ -32,36 +24,28 @@ fits c =
     let l : length (c .before .before .seal .last .1 .1 .0) ≡ 16544 = ap length (whole c) ∙ length-encode (sealed (s .self) (s .runs .now)) (s .runs .now) in
     omega (arith, c .encoded-len .ensures, encodedLen-hi (c .before .before .seal .result) [])
 
--- src/superblock.rt:273:37
 slice-aggregate-seal : tie.Need-slice-aggregate-seal
 slice-aggregate-seal c = search needs
 
--- src/superblock.rt:273:13
 seal-requires : tie.Need-seal-requires
 unfolding zeros
 seal-requires c κs = refl
 
--- src/superblock.rt:274:13
 encoded-len-requires : tie.Need-encoded-len-requires
 encoded-len-requires c κs = search needs
 
--- src/superblock.rt:275:27
 array-share-prefix-bytes : tie.Need-array-share-prefix-bytes
 array-share-prefix-bytes c = fits (c .before)
 
--- src/superblock.rt:275:27
 slice-aggregate-copy : tie.Need-slice-aggregate-copy
 slice-aggregate-copy c = simp length-take (omega (arith, fits (c .before .before)))
 
--- src/superblock.rt:275:9
 copy-requires : tie.Need-copy-requires
 copy-requires c κs = search needs
 
--- src/superblock.rt:269:5
 same-length : tie.Need-same-length
 same-length c = search needs
 
--- src/superblock.rt:269:5
 returns : tie.Need-returns
 unfolding storeIn prefix
 returns c = let k = c .before .before .before .before .before in
