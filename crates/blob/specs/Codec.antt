@@ -1,0 +1,48 @@
+-- How a superblock with its runs lies in memory: what the calls need of it. The real one is built of meta's definitions; a small one lets the
+-- calls be run by computation at small sizes.
+use Prim.Native.Nat.{ℕ}
+use mathlib.Core.List.{List, []}
+use Rattle.memory.specs.Bytes.{overwrite}
+use Rattle.meta.specs.declared.superblock.Superblock.{Superblock}
+use Rattle.meta.specs.declared.ZeroExtent.{ZeroExtent}
+use Rattle.meta.specs.declared.opening.Loaded.{Loaded}
+use Rattle.meta.specs.Runs.{numbersOf}
+use Rattle.meta.specs.Fnv.{basis, fold}
+use Rattle.meta.specs.Block.{prefix, decode as decodeBlock, seal as sealBlock, fresh as freshBlock}
+use Rattle.meta.specs.Load.{load as loadBlock}
+use Rattle.runs.specs.Image.{imageRuns}
+
+pub record Codec : Type 0 where
+  -- the block as it is stored with these runs: with its version and its checksum
+  pub seal : Superblock → List ZeroExtent → Superblock
+  -- the bytes that are stored for it
+  pub bytes : Superblock → List ZeroExtent → List ℕ
+  -- the block in a memory
+  pub decode : List ℕ → Superblock
+  -- that many runs in a memory
+  pub runsIn : ℕ → List ℕ → List ZeroExtent
+  -- the tests 1 to 3 at opening
+  pub load : List ℕ → Loaded
+  -- the block of a new image
+  pub fresh : Superblock
+  -- the image's checksum, taken on over bytes
+  pub hash : ℕ → List ℕ → ℕ
+  -- the checksum of no bytes
+  pub seed : ℕ
+
+-- the block goes to the front of memory
+unfoldable pub stored : Codec → Superblock → List ZeroExtent → List ℕ → List ℕ
+stored k b rs mem = overwrite 0 (k .bytes b rs) mem
+
+-- 01's superblock and hash
+unfoldable pub realCodec : Codec
+realCodec = record {
+  seal = λ b rs. sealBlock b (numbersOf rs);
+  bytes = λ b rs. prefix (sealBlock b (numbersOf rs)) (numbersOf rs);
+  decode = decodeBlock;
+  runsIn = imageRuns;
+  load = loadBlock;
+  fresh = freshBlock;
+  hash = fold;
+  seed = basis;
+}

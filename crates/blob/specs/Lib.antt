@@ -1,0 +1,4 @@
+pub mod Codec
+pub mod Blocks
+pub mod Calls
+pub mod Plan

@@ -1,0 +1,5 @@
+pub mod Lists
+pub mod Pages
+pub mod Image
+pub mod Update
+pub mod Buffers
