@@ -127,7 +127,7 @@ module _ (P S C L : ℕ) where
   short s l c =
       (uses c .mem? && ltb (length (l .mem)) (s .count .0 * S))
       || ((uses c .bufs? && buffersShort (modeOf s) (l .bufs))
-      || (uses c .work? && ltb (length (l .work)) ((L + 1 + 2 * frameCount P C (l .bufs)) * 2)))
+      || (uses c .work? && ltb (length (l .work)) ((L + 1 + 2 * frameCount P (l .bufs)) * 2)))
 
 -- 01: "The work list is zeros after every call but 35."
 abbrev pub cleared : Lent → Lent

@@ -2,3 +2,5 @@ pub mod Codec
 pub mod Blocks
 pub mod Calls
 pub mod Plan
+pub mod Store
+pub mod Opening

@@ -1,9 +1,9 @@
 -- An update lies in the overlay's numbers and in lent slices: a table of page numbers with one pool of frames, the record as two numbers a
 -- run, and the clean frames. Here it is read off them and put back, to the last element.
 use Prim.Native.Nat.{ℕ, suc, _*_, _/_, min}
-use mathlib.Core.Bool.{Bool, true, false, cond, _||_}
+use mathlib.Core.Bool.{Bool, true, false, cond, _&&_, _||_}
 use mathlib.Core.List.{List, [], _∷_, _++_}
-use lib.Dec.{ltb, eqb}
+use lib.Dec.{ltb, leb, eqb}
 use lib.ListN.{length, take, drop}
 use Rattle.memory.specs.Bytes.{zeros, resize}
 use Rattle.meta.specs.declared.ZeroExtent.{ZeroExtent}
@@ -23,23 +23,32 @@ pub record Buffers : Type 0 where
   -- the record
   pub recs : List ℕ
 
+-- 01: "a frame is 16,384 lent bytes with one entry of the lent list of page numbers, the smaller count deciding"
+unfoldable pub frameCount : ℕ → Buffers → ℕ
+frameCount P l = min (length (l .frames) / P) (length (l .numbers))
+
+-- record entries that the lent list holds
+unfoldable pub entryCount : Buffers → ℕ
+entryCount l = length (l .recs) / 2
+
+-- 01: "its frames, page numbers, clean frames and record, whole, become zeros, as they do after any ended update or direct call"
+unfoldable pub wiped : Buffers → Buffers
+wiped l = record {
+  frames = zeros (length (l .frames));
+  numbers = zeros (length (l .numbers));
+  clean = zeros (length (l .clean));
+  recs = zeros (length (l .recs));
+}
+
 -- page size, cache pages
 module _ (P C : ℕ) where
-  -- 01: "a frame is 16,384 lent bytes with one entry of the lent list of page numbers, the smaller count deciding"
-  unfoldable pub frameCount : Buffers → ℕ
-  frameCount l = min (length (l .frames) / P) (length (l .numbers))
-
-  -- record entries that the lent list holds
-  unfoldable pub entryCount : Buffers → ℕ
-  entryCount l = length (l .recs) / 2
-
   -- the cached pages' numbers; a count above the capacity counts as the capacity
   unfoldable pub cached : CleanCache → List ℕ
   cached c = take (min (c .count) C) (c .pages)
 
   -- 01, 35: "the frames or record shorter than what they hold, the clean frames under 8 pages"
   unfoldable pub shortBuffers : Overlay → Buffers → Bool
-  shortBuffers v l = ltb (frameCount l) (v .dirty) || (ltb (length (l .recs)) (v .recorded * 2) || ltb (length (l .clean)) (C * P))
+  shortBuffers v l = ltb (frameCount P l) (v .dirty) || (ltb (length (l .recs)) (v .recorded * 2) || ltb (length (l .clean)) (C * P))
 
   -- the update in the lent slices
   unfoldable pub view : Overlay → Buffers → Over
@@ -71,15 +80,6 @@ module _ (P C : ℕ) where
     recs = refill (v .recorded * 2) (numbersOf (w .recorded)) (l .recs);
   }
 
-  -- 01: "its frames, page numbers, clean frames and record, whole, become zeros, as they do after any ended update or direct call"
-  unfoldable pub wiped : Buffers → Buffers
-  wiped l = record {
-    frames = zeros (length (l .frames));
-    numbers = zeros (length (l .numbers));
-    clean = zeros (length (l .clean));
-    recs = zeros (length (l .recs));
-  }
-
   -- ## The dirty-page view
 
   -- the place of page q among page numbers
@@ -92,4 +92,4 @@ module _ (P C : ℕ) where
   dirtyPage v frames numbers q =
       let ns = take (v .dirty) numbers in
       let part = take P (drop (placeOf ns q * P) frames) in
-      cond (ltb (placeOf ns q) (length ns)) part []
+      cond (ltb (placeOf ns q) (length ns) && leb (suc (placeOf ns q) * P) (length frames)) part []
