@@ -1,5 +1,5 @@
 -- What each call makes of the superblock. Page size, schema version (but for the end of an import) and unknown bits of the flags are carried on.
-use mathlib.Core.Path.{_≡_, refl}
+use mathlib.Core.Path.{_≡_, refl, ap}
 use Prim.Native.Nat.{ℕ, suc, _+_, _*_, _/_, _%_, _≤_, _<_, min}
 use native.Mathlib.Omega.{arith}
 use mathlib.Core.Bool.{Bool, true, false, cond, _||_}
@@ -10,7 +10,7 @@ use borrow.Author.Tests.{eq-eqb, ne-eqb}
 use Rattle.config.specs.Pages.{count}
 use Rattle.meta.specs.declared.superblock.Superblock.{Superblock}
 use Rattle.meta.specs.declared.ZeroExtent.{ZeroExtent}
-use Rattle.meta.specs.Block.{ofFields}
+use Rattle.meta.specs.Block.{ofFields, sealedBy}
 
 -- ## Flags: bit 1 an import is open, bit 2 the checksum is stale, bit 4 a refresh of it is under way
 
@@ -97,3 +97,96 @@ module _ (b : Superblock) (s r : Bool) (f : ℕ) where
   unfolding importing
   marks-importing true e = eq-eqb (b .flags % 2) 1 (omega (arith, parity true))
   marks-importing false e = ne-eqb (b .flags % 2) 1 (omega (arith, parity false))
+
+-- ## Laws: the fields after each call
+
+-- a mark is read from the flags alone
+pub same-importing : (a b : Superblock) → a .flags ≡ b .flags → importing a ≡ importing b
+unfolding importing
+same-importing a b e = ap (λ (f : ℕ). eqb (f % 2) 1) e
+
+-- the database is where it was, and an open import is what it was
+pub record Keeps (b b′ : Superblock) : Type 0 where
+  pub size : b′ .«db_size» ≡ b .«db_size»
+  pub base : b′ .«db_base_offset» ≡ b .«db_base_offset»
+  pub runs : b′ .«zero_extent_count» ≡ b .«zero_extent_count»
+
+pub record KeepsImport (b b′ : Superblock) : Type 0 where
+  pub mark : importing b′ ≡ importing b
+  pub base : b′ .«import_base_offset» ≡ b .«import_base_offset»
+  pub written : b′ .«import_written_until» ≡ b .«import_written_until»
+  pub total : b′ .«import_total_size» ≡ b .«import_total_size»
+
+pub record Commits (n runs : ℕ) (b b′ : Superblock) : Type 0 where
+  pub size : b′ .«db_size» ≡ n
+  pub base : b′ .«db_base_offset» ≡ b .«db_base_offset»
+  pub count : b′ .«zero_extent_count» ≡ runs
+  pub imports : KeepsImport b b′
+
+pub after-commit : (P M : ℕ) (u : Bool) (n runs : ℕ) (b : Superblock) → Commits n runs b (afterCommit P M u n runs b)
+unfolding afterCommit
+after-commit P M true n runs b = record { size = refl; base = refl; count = refl; imports = record { mark = marks-importing _ true false (b .flags) (importing b) refl; base = refl; written = refl; total = refl } }
+after-commit P M false n runs b = record { size = refl; base = refl; count = refl; imports = record { mark = same-importing _ b refl; base = refl; written = refl; total = refl } }
+
+pub record ImportBegins (total base : ℕ) (b′ : Superblock) : Type 0 where
+  pub mark : importing b′ ≡ true
+  pub base-is : b′ .«import_base_offset» ≡ base
+  pub written : b′ .«import_written_until» ≡ 0
+  pub total-is : b′ .«import_total_size» ≡ total
+
+pub after-begin : (total expected base : ℕ) (b : Superblock) → ImportBegins total base (afterImportBegin total expected base b)
+unfolding afterImportBegin
+after-begin total expected base b = record { mark = marks-importing _ (stale b) false (b .flags) true refl; base-is = refl; written = refl; total-is = refl }
+
+pub begin-keeps : (total expected base : ℕ) (b : Superblock) → Keeps b (afterImportBegin total expected base b)
+unfolding afterImportBegin
+begin-keeps total expected base b = record { size = refl; base = refl; runs = refl }
+
+pub record ChunkKeeps (written : ℕ) (b b′ : Superblock) : Type 0 where
+  pub keeps : Keeps b b′
+  pub mark : importing b′ ≡ importing b
+  pub base : b′ .«import_base_offset» ≡ b .«import_base_offset»
+  pub written-is : b′ .«import_written_until» ≡ written
+  pub total : b′ .«import_total_size» ≡ b .«import_total_size»
+
+pub after-chunk : (written : ℕ) (b : Superblock) → ChunkKeeps written b (afterImportChunk written b)
+unfolding afterImportChunk
+after-chunk written b = record { keeps = record { size = refl; base = refl; runs = refl }; mark = same-importing _ b refl; base = refl; written-is = refl; total = refl }
+
+pub cancel-keeps : (b : Superblock) → Keeps b (afterImportCancel b)
+unfolding afterImportCancel
+cancel-keeps b = record { size = refl; base = refl; runs = refl }
+
+pub after-cancel : (b : Superblock) → importing (afterImportCancel b) ≡ false
+unfolding afterImportCancel
+after-cancel b = marks-importing _ (stale b) (refreshing b) (b .flags) false refl
+
+pub record Finishes (b b′ : Superblock) : Type 0 where
+  pub size : b′ .«db_size» ≡ b .«import_total_size»
+  pub base : b′ .«db_base_offset» ≡ b .«import_base_offset»
+  pub count : b′ .«zero_extent_count» ≡ 0
+  pub mark : importing b′ ≡ false
+
+pub after-finish : (P sum : ℕ) (b : Superblock) → Finishes b (afterImportFinish P sum b)
+unfolding afterImportFinish
+after-finish P sum b = record { size = refl; base = refl; count = refl; mark = marks-importing _ false false (b .flags) false refl }
+
+pub refresh-keeps : (sum : ℕ) (b : Superblock) → Keeps b (afterRefresh sum b)
+unfolding afterRefresh
+refresh-keeps sum b = record { size = refl; base = refl; runs = refl }
+
+pub refresh-imports : (sum : ℕ) (b : Superblock) → KeepsImport b (afterRefresh sum b)
+unfolding afterRefresh
+refresh-imports sum b = record { mark = marks-importing _ false false (b .flags) (importing b) refl; base = refl; written = refl; total = refl }
+
+pub step-keeps : (offset hash : ℕ) (b : Superblock) → Keeps b (afterRefreshStep offset hash b)
+unfolding afterRefreshStep
+step-keeps offset hash b = record { size = refl; base = refl; runs = refl }
+
+pub step-imports : (offset hash : ℕ) (b : Superblock) → KeepsImport b (afterRefreshStep offset hash b)
+unfolding afterRefreshStep
+step-imports offset hash b = record { mark = marks-importing _ (stale b) true (b .flags) (importing b) refl; base = refl; written = refl; total = refl }
+
+-- the store's seal changes none of these
+pub seal-importing : (c : ℕ) (b : Superblock) → importing (sealedBy c b) ≡ importing b
+seal-importing c b = same-importing (sealedBy c b) b refl

@@ -4,3 +4,6 @@ pub mod Calls
 pub mod Plan
 pub mod Store
 pub mod Opening
+pub mod Lawful
+pub mod MemoryLaws
+pub mod CommitLaws

@@ -16,7 +16,7 @@ use Rattle.meta.specs.Block.{ofFields}
 use Rattle.blob.specs.declared.State.{State}
 use Rattle.blob.specs.declared.Answer.{Answer}
 use Rattle.blob.specs.declared.Answer.the-variants.{Done, Refused}
-use Rattle.blob.specs.Codec.{Codec, stored}
+use Rattle.blob.specs.Codec.{Codec, sealed, stored}
 use Rattle.blob.specs.Blocks.{importing}
 use Rattle.blob.specs.Store.{resting, noOverlay}
 
@@ -47,7 +47,7 @@ module _ (P S C L M : ℕ) (k : Codec) where
   -- 01: "at count 0 it stores a fresh superblock, or answers 32 if the ceiling is 0"
   abbrev pub openFresh : List ℕ → List ℕ → Growth → Opened
   openFresh m grown (NotGrown r) = notOpened 0 m r
-  openFresh m grown (Grown c) = record { state = resting (c .0) (k .seal (k .fresh) []) (noOverlay P S C L M k); answer = Done; mem = stored k (k .fresh) [] grown }
+  openFresh m grown (Grown c) = record { state = resting (c .0) (sealed k (k .fresh) []) (noOverlay P S C L M k); answer = Done; mem = stored k (k .fresh) [] grown }
 
   abbrev pub openLoaded : ℕ → List ℕ → Loaded → Opened
   openLoaded n m (NotLoaded r) = notOpened n m r

@@ -26,7 +26,7 @@ use Rattle.blob.specs.declared.State.{State}
 use Rattle.blob.specs.declared.Answer.{Answer}
 use Rattle.blob.specs.declared.Answer.the-variants.{Done, Size, Read, Exported, Checksum, Refreshed, Refused}
 use Rattle.blob.specs.declared.ChecksumRefresh.{ChecksumRefresh}
-use Rattle.blob.specs.Codec.{Codec, stored}
+use Rattle.blob.specs.Codec.{Codec, sealed, stored}
 use Rattle.blob.specs.Blocks.{importing, refreshing, afterCommit, afterImportBegin, afterImportChunk, afterImportCancel, afterImportFinish, afterRefresh, afterRefreshStep}
 use Rattle.blob.specs.Calls.{Call, begin, read, write, truncate, commit, rollback, fileSize, importBegin, importChunk, importFinish, importCancel, export, checksum, refresh, refreshStep, Lent, Out, out, Uses, uses, lentBytes, Mode, idle, update, modeOf, short, cleared, withMem, withBuffers}
 use Rattle.blob.specs.Plan.{storePlan, required}
@@ -92,7 +92,7 @@ module _ (P S C L M : ℕ) (k : Codec) where
   publish u s l w rs m (NotGrown r) = over s l (Refused r)
   publish u s l w rs m (Grown c) =
       let b : Superblock = afterCommit P M u (w .size) (length rs) (s .block) in
-      out (ended (c .0) (k .seal b rs))
+      out (ended (c .0) (sealed k b rs))
       (withMem (stored k b rs (writePages (s .block .«db_base_offset») (count P (w .size)) (w .dirty) m)) (withBuffers (wiped (l .bufs)) l))
       Done []
 
@@ -167,7 +167,7 @@ module _ (P S C L M : ℕ) (k : Codec) where
 
   -- a block is stored, with the image's runs as they are
   unfoldable pub restore : State → Lent → Superblock → Answer → Out
-  restore s l b a = out (onward s (s .count .0) (k .seal b (runsOf b (l .mem)))) (withMem (stored k b (runsOf b (l .mem)) (l .mem)) l) a []
+  restore s l b a = out (onward s (s .count .0) (sealed k b (runsOf b (l .mem)))) (withMem (stored k b (runsOf b (l .mem)) (l .mem)) l) a []
 
   -- 01: "its begin 12, 10, 20". The import's base is the end of memory as it is
   unfoldable pub doImportBegin : State → Lent → ℕ → ℕ → Out
@@ -204,7 +204,7 @@ module _ (P S C L M : ℕ) (k : Codec) where
       cond (not (importing b)) (out s l (Refused ImportNotStarted) [])
       (cond (not (eqb (b .«import_written_until») (b .«import_total_size»))) (out s l (Refused ImportIncomplete) [])
       (cond (not (eqb sum (b .«import_expected_checksum»))) (restore s l (afterImportCancel b) (Refused (ChecksumMismatch (b .«import_expected_checksum») sum)))
-      (out (onward s (s .count .0) (k .seal finished [])) (withMem (stored k finished [] (l .mem)) l) Done [])))
+      (out (onward s (s .count .0) (sealed k finished [])) (withMem (stored k finished [] (l .mem)) l) Done [])))
 
   -- 01: "its cancel 12, 11"
   unfoldable pub doImportCancel : State → Lent → Out
