@@ -7,3 +7,4 @@ pub mod Opening
 pub mod Lawful
 pub mod MemoryLaws
 pub mod CommitLaws
+pub mod RealCodec
