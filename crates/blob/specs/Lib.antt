@@ -8,3 +8,4 @@ pub mod Lawful
 pub mod MemoryLaws
 pub mod CommitLaws
 pub mod RealCodec
+pub mod OpeningLaws
