@@ -1,3 +1,4 @@
 pub mod Plain
 pub mod Claim
 pub mod Invariant
+pub mod Ends
