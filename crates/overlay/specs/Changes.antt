@@ -138,9 +138,9 @@ module _ (P : ℕ) (pos : 0 < P) (b : ℕ → ℕ) (z0 : ℕ) where
   unfolding touch
   touch-recorded l u p v = refl
 
-  touch-pageNumbers : (l : Bool) (u : ℕ → ℕ → ℕ) (p : ℕ) (v : Over) → pageNumbers ((touch P b l u p v) .dirty) ≡ addNumber p (pageNumbers (v .dirty))
+  touch-numbers : (l : Bool) (u : ℕ → ℕ → ℕ) (p : ℕ) (v : Over) → pageNumbers ((touch P b l u p v) .dirty) ≡ addNumber p (pageNumbers (v .dirty))
   unfolding touch
-  touch-pageNumbers l u p v = numbers-putPage p _ (v .dirty)
+  touch-numbers l u p v = numbers-putPage p _ (v .dirty)
 
   -- ## several pages
 
@@ -175,9 +175,9 @@ module _ (P : ℕ) (pos : 0 < P) (b : ℕ → ℕ) (z0 : ℕ) where
   touchAll-recorded l u p zero v = refl
   touchAll-recorded l u p (suc n) v = touchAll-recorded l u (suc p) n (touch P b l u p v) ∙ touch-recorded l u p v
 
-  touchAll-pageNumbers : (l : Bool) (u : ℕ → ℕ → ℕ) (p n : ℕ) (v : Over) → pageNumbers ((touchAll P b l u p n v) .dirty) ≡ addNumbers p n (pageNumbers (v .dirty))
-  touchAll-pageNumbers l u p zero v = refl
-  touchAll-pageNumbers l u p (suc n) v = touchAll-pageNumbers l u (suc p) n (touch P b l u p v) ∙ ap (addNumbers (suc p) n) (touch-pageNumbers l u p v)
+  touchAll-numbers : (l : Bool) (u : ℕ → ℕ → ℕ) (p n : ℕ) (v : Over) → pageNumbers ((touchAll P b l u p n v) .dirty) ≡ addNumbers p n (pageNumbers (v .dirty))
+  touchAll-numbers l u p zero v = refl
+  touchAll-numbers l u p (suc n) v = touchAll-numbers l u (suc p) n (touch P b l u p v) ∙ ap (addNumbers (suc p) n) (touch-numbers l u p v)
 
   -- ## numbers of pages
 
@@ -410,22 +410,22 @@ module _ (P : ℕ) (pos : 0 < P) (b : ℕ → ℕ) (z0 : ℕ) where
 
   -- ## which pages get dirty, and what is recorded
 
-  patch-pageNumbers : (z n : ℕ) (v : Over) → pageNumbers ((patch P b z n v) .dirty) ≡ addNumberIf (partial P z) (z / P) (pageNumbers (v .dirty))
+  patch-numbers : (z n : ℕ) (v : Over) → pageNumbers ((patch P b z n v) .dirty) ≡ addNumberIf (partial P z) (z / P) (pageNumbers (v .dirty))
   unfolding patch addNumberIf
-  patch-pageNumbers z n v = split (partial P z) (λ t. rw (patch, addNumberIf, t) (touch-pageNumbers true _ _ v)) (λ f. rw (patch, addNumberIf, f))
+  patch-numbers z n v = split (partial P z) (λ t. rw (patch, addNumberIf, t) (touch-numbers true _ _ v)) (λ f. rw (patch, addNumberIf, f))
 
-  finish-pageNumbers : (z n : ℕ) (v : Over) → pageNumbers ((finish P b z n v) .dirty) ≡ addNumberIf (partial P n && not (eqb (z / P) (n / P))) (n / P) (pageNumbers (v .dirty))
+  finish-numbers : (z n : ℕ) (v : Over) → pageNumbers ((finish P b z n v) .dirty) ≡ addNumberIf (partial P n && not (eqb (z / P) (n / P))) (n / P) (pageNumbers (v .dirty))
   unfolding finish addNumberIf
-  finish-pageNumbers z n v = split (partial P n && not (eqb (z / P) (n / P))) (λ t. rw (finish, addNumberIf, t) (touch-pageNumbers true _ _ v)) (λ f. rw (finish, addNumberIf, f))
+  finish-numbers z n v = split (partial P n && not (eqb (z / P) (n / P))) (λ t. rw (finish, addNumberIf, t) (touch-numbers true _ _ v)) (λ f. rw (finish, addNumberIf, f))
 
-  stretch-pageNumbers : (n : ℕ) (v : Over) → pageNumbers ((stretch P n v) .dirty) ≡ pageNumbers (v .dirty)
+  stretch-numbers : (n : ℕ) (v : Over) → pageNumbers ((stretch P n v) .dirty) ≡ pageNumbers (v .dirty)
   unfolding stretch
-  stretch-pageNumbers n v = refl
+  stretch-numbers n v = refl
 
-  growTo-pageNumbers : (n : ℕ) (v : Over) → pageNumbers ((growTo P b n v) .dirty) ≡ grownNumbers P (v .size) n (pageNumbers (v .dirty))
+  growTo-numbers : (n : ℕ) (v : Over) → pageNumbers ((growTo P b n v) .dirty) ≡ grownNumbers P (v .size) n (pageNumbers (v .dirty))
   unfolding growTo grow grownNumbers
-  growTo-pageNumbers n v = split (ltb (v .size) n)
-      (λ t. rw (growTo, grow, grownNumbers, t) (finish-pageNumbers (v .size) n _ ∙ rw (patch-pageNumbers (v .size) n (stretch P n v), stretch-pageNumbers n v)))
+  growTo-numbers n v = split (ltb (v .size) n)
+      (λ t. rw (growTo, grow, grownNumbers, t) (finish-numbers (v .size) n _ ∙ rw (patch-numbers (v .size) n (stretch P n v), stretch-numbers n v)))
       (λ f. rw (growTo, grownNumbers, f))
 
   patch-recorded : (z n : ℕ) (v : Over) → (patch P b z n v) .recorded ≡ v .recorded
@@ -442,29 +442,29 @@ module _ (P : ℕ) (pos : 0 < P) (b : ℕ → ℕ) (z0 : ℕ) where
       (λ t. rw (growTo, grow, t) (finish-recorded (v .size) n _ ∙ patch-recorded (v .size) n _))
       (λ f. rw (growTo, f) (sym (push-none _ _ (v .recorded) (count-mono n (v .size) (ltb-false (v .size) n f)))))
 
-  pub write-pageNumbers : (o : ℕ) (bs : List ℕ) (v : Over) → pageNumbers ((overWrite P b o bs v) .dirty) ≡ addNumbers (o / P) (span P o (length bs)) (grownNumbers P (v .size) (o + length bs) (pageNumbers (v .dirty)))
+  pub write-numbers : (o : ℕ) (bs : List ℕ) (v : Over) → pageNumbers ((overWrite P b o bs v) .dirty) ≡ addNumbers (o / P) (span P o (length bs)) (grownNumbers P (v .size) (o + length bs) (pageNumbers (v .dirty)))
   unfolding overWrite
-  write-pageNumbers o bs v = touchAll-pageNumbers _ _ (o / P) (span P o (length bs)) _ ∙ ap (addNumbers (o / P) (span P o (length bs))) (growTo-pageNumbers (o + length bs) v)
+  write-numbers o bs v = touchAll-numbers _ _ (o / P) (span P o (length bs)) _ ∙ ap (addNumbers (o / P) (span P o (length bs))) (growTo-numbers (o + length bs) v)
 
   pub write-recorded : (o : ℕ) (bs : List ℕ) (v : Over) → (overWrite P b o bs v) .recorded ≡ pushRun (count P (v .size)) (count P (o + length bs)) (v .recorded)
   unfolding overWrite
   write-recorded o bs v = touchAll-recorded _ _ (o / P) (span P o (length bs)) _ ∙ growTo-recorded (o + length bs) v
 
-  tail-pageNumbers : (n : ℕ) (v : Over) → pageNumbers ((tail P b n v) .dirty) ≡ addNumberIf (partial P n) (n / P) (pageNumbers (v .dirty))
+  tail-numbers : (n : ℕ) (v : Over) → pageNumbers ((tail P b n v) .dirty) ≡ addNumberIf (partial P n) (n / P) (pageNumbers (v .dirty))
   unfolding tail addNumberIf
-  tail-pageNumbers n v = split (partial P n) (λ t. rw (tail, addNumberIf, t) (touch-pageNumbers true _ _ v)) (λ f. rw (tail, addNumberIf, f))
+  tail-numbers n v = split (partial P n) (λ t. rw (tail, addNumberIf, t) (touch-numbers true _ _ v)) (λ f. rw (tail, addNumberIf, f))
 
   tail-recorded : (n : ℕ) (v : Over) → (tail P b n v) .recorded ≡ v .recorded
   unfolding tail
   tail-recorded n v = split (partial P n) (λ t. rw (tail, t) (touch-recorded true _ _ v)) (λ f. rw (tail, f))
 
-  chop-pageNumbers : (n : ℕ) (v : Over) → pageNumbers ((chop P n v) .dirty) ≡ below (count P n) (pageNumbers (v .dirty))
+  chop-numbers : (n : ℕ) (v : Over) → pageNumbers ((chop P n v) .dirty) ≡ below (count P n) (pageNumbers (v .dirty))
   unfolding chop
-  chop-pageNumbers n v = numbers-keep (count P n) (v .dirty)
+  chop-numbers n v = numbers-keep (count P n) (v .dirty)
 
-  pub truncate-pageNumbers : (n : ℕ) (v : Over) → pageNumbers ((truncated P b n v) .dirty) ≡ addNumberIf (partial P n) (n / P) (below (count P n) (grownNumbers P (v .size) n (pageNumbers (v .dirty))))
+  pub truncate-numbers : (n : ℕ) (v : Over) → pageNumbers ((truncated P b n v) .dirty) ≡ addNumberIf (partial P n) (n / P) (below (count P n) (grownNumbers P (v .size) n (pageNumbers (v .dirty))))
   unfolding truncated
-  truncate-pageNumbers n v = tail-pageNumbers n _ ∙ rw (chop-pageNumbers n (growTo P b n v), growTo-pageNumbers n v)
+  truncate-numbers n v = tail-numbers n _ ∙ rw (chop-numbers n (growTo P b n v), growTo-numbers n v)
 
   patch-size : (z n : ℕ) (v : Over) → (patch P b z n v) .size ≡ v .size
   unfolding patch
