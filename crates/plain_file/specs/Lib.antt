@@ -3,3 +3,5 @@ pub mod Claim
 pub mod Invariant
 pub mod Ends
 pub mod Turns
+pub mod IdleTurns
+pub mod Demand3
