@@ -102,7 +102,8 @@ module _ (P C M : ℕ) (pos : 0 < P) (b : ℕ → ℕ) where
   stretch-weak : (n : ℕ) (v : Over) → n ≤ M → Weak P C M b v → Weak P C M b (stretch P n v)
   unfolding stretch
   stretch-weak n v h w = record {
-    sized = w .sized; distinct = w .distinct;
+    sized = w .sized;
+    distinct = w .distinct;
     cached = w .cached;
     few = w .few;
     range = h;
@@ -126,7 +127,8 @@ module _ (P C M : ℕ) (pos : 0 < P) (b : ℕ → ℕ) where
   look-weak p v w = split (holds (v .dirty) p || (covers (v .recorded) p || holds (v .cache) p))
       (λ t. rw (lookUp, t) w)
       (λ f. rw (lookUp, f) record {
-        sized = w .sized; distinct = w .distinct;
+        sized = w .sized;
+        distinct = w .distinct;
         cached = all-drop P b (suc (length (v .cache)) - C) (v .cache ++ record { number = p; bytes = imagePage P b p } ∷ []) (all-snoc P b (v .cache) p (w .cached));
         few = simp (length-drop, length-append) (omega arith);
         range = w .range;
