@@ -9,3 +9,4 @@ pub mod MemoryLaws
 pub mod CommitLaws
 pub mod RealCodec
 pub mod OpeningLaws
+pub mod Small

@@ -26,7 +26,7 @@ use Rattle.overlay.specs.Buffers.{Buffers, frameCount, entryCount, wiped
 
 -- ## The record as numbers
 
-runs-numbers : (l : List ZeroExtent) (t : List ℕ) → runsOf (take (length l * 2) (numbersOf l ++ t)) ≡ l
+pub runs-numbers : (l : List ZeroExtent) (t : List ℕ) → runsOf (take (length l * 2) (numbersOf l ++ t)) ≡ l
 runs-numbers [] t = refl
 runs-numbers (x ∷ l) t =
     let e : suc (length l) * 2 ≡ suc (suc (length l * 2)) = omega arith in
