@@ -5,3 +5,4 @@ pub mod Ends
 pub mod Turns
 pub mod IdleTurns
 pub mod Demand3
+pub mod Wrong
