@@ -1,0 +1,12 @@
+pub mod Codec
+pub mod Blocks
+pub mod Calls
+pub mod Plan
+pub mod Store
+pub mod Opening
+pub mod Lawful
+pub mod MemoryLaws
+pub mod CommitLaws
+pub mod RealCodec
+pub mod OpeningLaws
+pub mod Small

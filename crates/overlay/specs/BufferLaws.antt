@@ -1,0 +1,102 @@
+-- An update that is put back into the lent slices is read off them again, and only the places in use count.
+use mathlib.Core.Path.{_≡_, refl, sym, ap, _∙_, subst}
+use Prim.Native.Nat.{ℕ, zero, suc, _+_, _-_, _*_, _/_, _≤_, _<_, max, min}
+use native.Mathlib.Nat.{le-div-iff-mul-le, mul-le-mul-right}
+use native.Mathlib.Omega.{arith}
+use mathlib.Core.Bool.{Bool, true, false, _||_}
+use mathlib.Core.List.{List, [], _∷_, _++_}
+use lib.Dec.{ltb}
+use lib.ListN.{length, getD, take, drop, length-append, length-take}
+use lib.Seq.{ext-getD, getD-drop, getD-take, take-at}
+use borrow.Author.Tests.{ltb-true, ltb-false}
+use Rattle.memory.specs.Bytes.{zeros, resize}
+use Rattle.memory.specs.Laws.{split, length-resize, resize-in, resize-alike, length-zeros}
+use Rattle.meta.specs.declared.ZeroExtent.{ZeroExtent}
+use Rattle.meta.specs.Runs.{run, runsOf, numbersOf}
+use Rattle.runs.specs.Flat.{runsIn}
+use Rattle.runs.specs.FlatLaws.{length-numbers, length-runsIn}
+use Rattle.overlay.specs.declared.Overlay.{Overlay}
+use Rattle.overlay.specs.declared.CleanCache.{CleanCache}
+use Rattle.overlay.specs.Lists.{refill}
+use Rattle.overlay.specs.ListLaws.{clash, tests, resize-seam, refill-front, refill-length, refill-keeps, take-alike}
+use Rattle.overlay.specs.Pages.{Page, pageNumbers, flat, pagesIn}
+use Rattle.overlay.specs.PageLaws.{Sized, pagesIn-flat, pagesIn-alike, numbers-length, flat-length}
+use Rattle.overlay.specs.Update.{Over, fresh}
+use Rattle.overlay.specs.Buffers.{Buffers, frameCount, entryCount, wiped, cached, shortBuffers, view, overlayOf, putBack}
+
+-- ## The record as numbers
+
+pub runs-numbers : (l : List ZeroExtent) (t : List ℕ) → runsOf (take (length l * 2) (numbersOf l ++ t)) ≡ l
+runs-numbers [] t = refl
+runs-numbers (x ∷ l) t =
+    let e : suc (length l) * 2 ≡ suc (suc (length l * 2)) = omega arith in
+    rw e (λ k. x ∷ runs-numbers l t k)
+
+runs-alike : (n : ℕ) (a b : List ℕ) → n * 2 ≤ length a → n * 2 ≤ length b → ((i : ℕ) → i < n * 2 → getD a i 0 ≡ getD b i 0) → runsIn n a ≡ runsIn n b
+unfolding runsIn
+runs-alike n a b p q h = ap runsOf (take-alike (n * 2) a b p q h)
+
+take-resize : (n k : ℕ) (l : List ℕ) → length l ≡ n → n ≤ k → take n (resize k l) ≡ l
+take-resize n k l e h = ext-getD 0 _ _ (length-take n (resize k l) ∙ omega (arith, length-resize k l))
+    (λ i j. let u : i < n = omega (arith, length-take n (resize k l)) in getD-take n (resize k l) i 0 u ∙ resize-in k l i (omega arith))
+
+-- page size, cache pages
+module _ (P C : ℕ) where
+  -- the cached pages' numbers are read again
+  pub cached-put : (begun : ℕ) (w : Over) → length (w .cache) ≤ C → cached P C (overlayOf P C begun w .cache) ≡ pageNumbers (w .cache)
+  unfolding cached overlayOf
+  cached-put begun w h =
+      let e : min (length (w .cache)) C ≡ length (w .cache) = omega arith in
+      rw e (take-resize (length (w .cache)) C (pageNumbers (w .cache)) (numbers-length (w .cache)) h)
+
+  pub view-put : (begun : ℕ) (v : Overlay) (w : Over) (l : Buffers) → Sized P (w .dirty) → Sized P (w .cache) → length (w .cache) ≤ C
+      → view P C (overlayOf P C begun w) (putBack P C v w l) ≡ w
+  unfolding view overlayOf putBack refill runsIn cached
+  view-put begun v w l s c few =
+      let n : resize (length (w .dirty)) (refill (v .dirty) (pageNumbers (w .dirty)) (l .numbers)) ≡ pageNumbers (w .dirty) =
+      subst (λ (j : ℕ). resize j (refill (v .dirty) (pageNumbers (w .dirty)) (l .numbers)) ≡ pageNumbers (w .dirty)) (numbers-length (w .dirty)) (resize-seam (pageNumbers (w .dirty)) _) in
+      let d : pagesIn P (resize (length (w .dirty)) (refill (v .dirty) (pageNumbers (w .dirty)) (l .numbers))) (refill (v .dirty * P) (flat (w .dirty)) (l .frames)) ≡ w .dirty =
+      rw n (pagesIn-flat P (w .dirty) _ s) in
+      let e : min (length (w .cache)) C ≡ length (w .cache) = omega arith in
+      let q : take (min (length (w .cache)) C) (resize C (pageNumbers (w .cache))) ≡ pageNumbers (w .cache) =
+      rw e (take-resize (length (w .cache)) C (pageNumbers (w .cache)) (numbers-length (w .cache)) few) in
+      let k : ℕ = length (take (min (v .cache .count) C) (v .cache .pages)) * P in
+      let x : pagesIn P (take (min (length (w .cache)) C) (resize C (pageNumbers (w .cache)))) (refill k (flat (w .cache)) (l .clean)) ≡ w .cache = rw q (pagesIn-flat P (w .cache) _ c) in
+      λ i. record {
+        size = w .size;
+        dirty = d i;
+        recorded = runs-numbers (w .recorded) (zeros (v .recorded * 2 - length (numbersOf (w .recorded))) ++ drop (max (v .recorded * 2) (length (numbersOf (w .recorded)))) (l .recs)) i;
+        cache = x i;
+        budget = w .budget;
+      }
+
+  -- an update that has just begun is empty, whatever the slices hold
+  pub view-fresh : (z : ℕ) (w : Over) (l : Buffers) → w .dirty ≡ [] → w .recorded ≡ [] → w .cache ≡ [] → view P C (overlayOf P C z w) l ≡ w
+  unfolding view overlayOf runsIn cached resize
+  view-fresh z w l d r c = let e : min 0 C ≡ 0 = omega arith in λ i. record {
+    size = w .size;
+    dirty = (ap (λ (x : List Page). pagesIn P (resize (length x) (l .numbers)) (l .frames)) d ∙ sym d) i;
+    recorded = (ap (λ (x : List ZeroExtent). runsOf (take (length x * 2) (l .recs))) r ∙ sym r) i;
+    cache = (ap (λ (x : List Page). pagesIn P (take (min (length x) C) (resize C (pageNumbers x))) (l .clean)) c ∙ ap (λ (n : ℕ). pagesIn P (take n (resize C [])) (l .clean)) e ∙ sym c) i;
+    budget = w .budget;
+  }
+
+  pub view-alike : (v : Overlay) (a b : Buffers) → v .recorded * 2 ≤ length (a .recs) → v .recorded * 2 ≤ length (b .recs)
+      → ((i : ℕ) → i < v .dirty → getD (a .numbers) i 0 ≡ getD (b .numbers) i 0)
+      → ((i : ℕ) → i < v .dirty * P → getD (a .frames) i 0 ≡ getD (b .frames) i 0)
+      → ((i : ℕ) → i < v .recorded * 2 → getD (a .recs) i 0 ≡ getD (b .recs) i 0)
+      → ((i : ℕ) → i < length (cached P C (v .cache)) * P → getD (a .clean) i 0 ≡ getD (b .clean) i 0)
+      → view P C v a ≡ view P C v b
+  unfolding view
+  view-alike v a b ra rb n f r c =
+      let ns : resize (v .dirty) (a .numbers) ≡ resize (v .dirty) (b .numbers) = resize-alike (v .dirty) (a .numbers) (b .numbers) n in
+      let d : pagesIn P (resize (v .dirty) (a .numbers)) (a .frames) ≡ pagesIn P (resize (v .dirty) (b .numbers)) (b .frames) =
+      pagesIn-alike P (resize (v .dirty) (a .numbers)) (a .frames) (b .frames) (λ i h. f i (rw length-resize at h))
+      ∙ ap (λ (l : List ℕ). pagesIn P l (b .frames)) ns in
+      λ i. record {
+        size = v .size;
+        dirty = d i;
+        recorded = runs-alike (v .recorded) (a .recs) (b .recs) ra rb r i;
+        cache = pagesIn-alike P (cached P C (v .cache)) (a .clean) (b .clean) c i;
+        budget = v .budget;
+      }

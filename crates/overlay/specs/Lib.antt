@@ -1,0 +1,11 @@
+pub mod Lists
+pub mod ListLaws
+pub mod Pages
+pub mod Image
+pub mod Update
+pub mod Buffers
+pub mod PageLaws
+pub mod Changes
+pub mod Refused
+pub mod Reading
+pub mod BufferLaws

@@ -1,0 +1,249 @@
+-- Laws of pages, record and buffers, each by what a reader of it sees.
+use mathlib.Core.Path.{_≡_, refl, sym, ap, _∙_, subst}
+use Prim.Native.Nat.{ℕ, zero, suc, _+_, _-_, _*_, _/_, _%_, _≤_, _<_, max, min}
+use native.Mathlib.Nat.{mod-lt, div-add-mod', suc-mul}
+use native.Mathlib.Omega.{arith}
+use mathlib.Core.Bool.{Bool, true, false, not, cond, _&&_, _||_, or-true, or-false}
+use mathlib.Core.List.{List, [], _∷_, _++_, append-assoc}
+use lib.Dec.{ltb, leb, eqb}
+use lib.ListN.{length, take, drop, getD, length-append}
+use lib.Seq.{getD-drop, drop-at}
+use borrow.Author.Tests.{ltb-true, ltb-false, eqb-true, eqb-false, lt-ltb, le-ltb, le-leb, eq-eqb, ne-eqb}
+use Rattle.memory.specs.Bytes.{zeros, resize}
+use Rattle.memory.specs.Laws.{split, length-resize, resize-alike}
+use Rattle.meta.specs.declared.ZeroExtent.{ZeroExtent}
+use Rattle.meta.specs.Runs.{run}
+use Rattle.runs.specs.Sets.{within, covers}
+use Rattle.runs.specs.SetLaws.{covers-append, within-has, has-within}
+use Rattle.extents.specs.Plan.{below}
+use Rattle.extents.specs.PlanLaws.{among}
+use Rattle.overlay.specs.Lists.{tabulate}
+use Rattle.overlay.specs.ListLaws.{clash, tests, resize-seam}
+use Rattle.overlay.specs.Pages.{Page, pageNumbers, flat, holds, putPage, keepBelow, dropPage, addNumber, pageByte, pagesIn}
+use Rattle.overlay.specs.Update.{pushRun}
+
+-- ## Runs
+
+within-lo : (a e q : ℕ) → q < a → within (run a e) q ≡ false
+within-lo a e q h = split (within (run a e) q) (λ t. absurd (omega (arith, within-has (run a e) q t))) (λ f. f)
+
+within-hi : (a e q : ℕ) → e ≤ q → within (run a e) q ≡ false
+within-hi a e q h = split (within (run a e) q) (λ t. absurd (omega (arith, within-has (run a e) q t))) (λ f. f)
+
+-- every run ends at M or before
+abbrev pub EndsBy : ℕ → List ZeroExtent → Type 0
+EndsBy M [] = Unit {0}
+EndsBy M (r ∷ rs) = (r .end ≤ M) × EndsBy M rs
+
+ends-append : (M : ℕ) (rs ss : List ZeroExtent) → EndsBy M rs → EndsBy M ss → EndsBy M (rs ++ ss)
+ends-append M [] ss a b = b
+ends-append M (r ∷ rs) ss a b = (a .0, ends-append M rs ss (a .1) b)
+
+pub ends-push : (M a e : ℕ) (rs : List ZeroExtent) → e ≤ M → EndsBy M rs → EndsBy M (pushRun a e rs)
+unfolding pushRun
+ends-push M a e rs h b = split (ltb a e) (λ t. rw t (ends-append M rs _ b (h, tt))) (λ f. rw f b)
+
+-- a page that is covered lies before M
+pub ends-covers : (M : ℕ) (rs : List ZeroExtent) (q : ℕ) → EndsBy M rs → covers rs q ≡ true → q < M
+ends-covers M [] q b h = clash h refl
+ends-covers M (r ∷ rs) q b h = split (within r q)
+    (λ t. omega (arith, within-has r q t, b .0))
+    (λ f. ends-covers M rs q (b .1) (rw f at h))
+
+pub push-in : (a e : ℕ) (rs : List ZeroExtent) (q : ℕ) → a ≤ q → q < e → covers (pushRun a e rs) q ≡ true
+unfolding pushRun
+push-in a e rs q h k = rw (lt-ltb a e (omega arith), covers-append rs _ q, has-within (run a e) q (h, k)) (or-true (covers rs q))
+
+pub push-lo : (a e : ℕ) (rs : List ZeroExtent) (q : ℕ) → q < a → covers (pushRun a e rs) q ≡ covers rs q
+unfolding pushRun
+push-lo a e rs q h = split (ltb a e) (λ t. rw (t, covers-append rs _ q, within-lo a e q h) (or-false (covers rs q))) (λ f. rw f)
+
+pub push-hi : (a e : ℕ) (rs : List ZeroExtent) (q : ℕ) → e ≤ q → covers (pushRun a e rs) q ≡ covers rs q
+unfolding pushRun
+push-hi a e rs q h = split (ltb a e) (λ t. rw (t, covers-append rs _ q, within-hi a e q h) (or-false (covers rs q))) (λ f. rw f)
+
+pub push-none : (a e : ℕ) (rs : List ZeroExtent) → e ≤ a → pushRun a e rs ≡ rs
+unfolding pushRun
+push-none a e rs h = rw (le-ltb a e h)
+
+pub push-keeps : (a e : ℕ) (rs : List ZeroExtent) (q : ℕ) → covers rs q ≡ true → covers (pushRun a e rs) q ≡ true
+unfolding pushRun
+push-keeps a e rs q h = split (ltb a e) (λ t. rw (t, covers-append rs _ q, h)) (λ f. rw f h)
+
+-- ## dirty pages
+
+pub putPage-hit : (p : ℕ) (bs : List ℕ) (d : List Page) → holds (putPage p bs d) p ≡ true
+putPage-hit p bs [] = rw (eq-eqb p p refl)
+putPage-hit p bs (g ∷ d) = split (eqb (g .number) p)
+    (λ t. rw (t, eq-eqb p p refl))
+    (λ f. rw (f, f) (putPage-hit p bs d))
+
+pub putPage-miss : (p : ℕ) (bs : List ℕ) (d : List Page) (q : ℕ) → (p ≡ q → ⊥) → holds (putPage p bs d) q ≡ holds d q
+putPage-miss p bs [] q ne = rw (ne-eqb p q ne)
+putPage-miss p bs (g ∷ d) q ne = split (eqb (g .number) p)
+    (λ t. rw (t, ne-eqb p q ne, eqb-true (g .number) p t, ne-eqb p q ne))
+    (λ f. rw (f, putPage-miss p bs d q ne))
+
+pub putPage-keeps : (p : ℕ) (bs : List ℕ) (d : List Page) (q : ℕ) → holds d q ≡ true → holds (putPage p bs d) q ≡ true
+putPage-keeps p bs d q h = split (eqb p q)
+    (λ t. rw (← eqb-true p q t) (putPage-hit p bs d))
+    (λ f. putPage-miss p bs d q (eqb-false p q f) ∙ h)
+
+pub keep-low : (c : ℕ) (d : List Page) (q : ℕ) → q < c → holds (keepBelow c d) q ≡ holds d q
+keep-low c [] q h = refl
+keep-low c (g ∷ d) q h = split (ltb (g .number) c)
+    (λ t. rw (t, keep-low c d q h))
+    (λ f. rw (f, ne-eqb (g .number) q (omega (arith, tests))) (keep-low c d q h))
+
+pub keep-high : (c : ℕ) (d : List Page) (q : ℕ) → c ≤ q → holds (keepBelow c d) q ≡ false
+keep-high c [] q h = refl
+keep-high c (g ∷ d) q h = split (ltb (g .number) c)
+    (λ t. rw (t, ne-eqb (g .number) q (omega (arith, tests))) (keep-high c d q h))
+    (λ f. rw f (keep-high c d q h))
+
+-- every page has P bytes
+abbrev pub Sized : ℕ → List Page → Type 0
+Sized P [] = Unit {0}
+Sized P (g ∷ d) = (length (g .bytes) ≡ P) × Sized P d
+
+pub sized-putPage : (P p : ℕ) (bs : List ℕ) (d : List Page) → length bs ≡ P → Sized P d → Sized P (putPage p bs d)
+sized-putPage P p bs [] e h = (e, tt)
+sized-putPage P p bs (g ∷ d) e h = split (eqb (g .number) p)
+    (λ t. rw t (e, h .1))
+    (λ f. rw f (h .0, sized-putPage P p bs d e (h .1)))
+
+pub sized-keep : (P c : ℕ) (d : List Page) → Sized P d → Sized P (keepBelow c d)
+sized-keep P c [] h = tt
+sized-keep P c (g ∷ d) h = split (ltb (g .number) c)
+    (λ t. rw t (h .0, sized-keep P c d (h .1)))
+    (λ f. rw f (sized-keep P c d (h .1)))
+
+module _ (P : ℕ) (pos : 0 < P) where
+  -- a clean page leaves the other byte; in a dirty one it does not matter
+  pub byte-clean : (d : List Page) (o x : ℕ) → holds d (o / P) ≡ false → pageByte P d o x ≡ x
+  byte-clean [] o x h = refl
+  byte-clean (g ∷ d) o x h = split (eqb (g .number) (o / P))
+      (λ t. clash (rw t) h)
+      (λ f. rw f (byte-clean d o x (rw f at h)))
+
+  pub byte-dirty : (d : List Page) (o x y : ℕ) → holds d (o / P) ≡ true → pageByte P d o x ≡ pageByte P d o y
+  byte-dirty [] o x y h = clash h refl
+  byte-dirty (g ∷ d) o x y h = split (eqb (g .number) (o / P))
+      (λ t. rw t)
+      (λ f. rw f (byte-dirty d o x y (rw f at h)))
+
+  pub byte-hit : (p : ℕ) (bs : List ℕ) (d : List Page) (o x : ℕ) → p ≡ o / P → pageByte P (putPage p bs d) o x ≡ getD bs (o % P) 0
+  byte-hit p bs [] o x e = rw (eq-eqb p (o / P) e)
+  byte-hit p bs (g ∷ d) o x e = split (eqb (g .number) p)
+      (λ t. rw (t, eq-eqb p (o / P) e))
+      (λ f. rw (f, ← e, f) (byte-hit p bs d o x e))
+
+  pub byte-miss : (p : ℕ) (bs : List ℕ) (d : List Page) (o x : ℕ) → (p ≡ o / P → ⊥) → pageByte P (putPage p bs d) o x ≡ pageByte P d o x
+  byte-miss p bs [] o x ne = rw (ne-eqb p (o / P) ne)
+  byte-miss p bs (g ∷ d) o x ne = split (eqb (g .number) p)
+      (λ t. rw (t, ne-eqb p (o / P) ne, eqb-true (g .number) p t, ne-eqb p (o / P) ne))
+      (λ f. rw (f, byte-miss p bs d o x ne))
+
+  pub byte-keep : (c : ℕ) (d : List Page) (o x : ℕ) → o / P < c → pageByte P (keepBelow c d) o x ≡ pageByte P d o x
+  byte-keep c [] o x h = refl
+  byte-keep c (g ∷ d) o x h = split (ltb (g .number) c)
+      (λ t. rw (t, byte-keep c d o x h))
+      (λ f. rw (f, ne-eqb (g .number) (o / P) (omega (arith, tests))) (byte-keep c d o x h))
+
+  pub byte-drop : (p : ℕ) (d : List Page) (o x : ℕ) → (p ≡ o / P → ⊥) → pageByte P (dropPage p d) o x ≡ pageByte P d o x
+  byte-drop p [] o x ne = refl
+  byte-drop p (g ∷ d) o x ne = split (eqb (g .number) p)
+      (λ t. rw (t, eqb-true (g .number) p t, ne-eqb p (o / P) ne) (byte-drop p d o x ne))
+      (λ f. rw (f, byte-drop p d o x ne))
+
+-- ## numbers of pages
+
+pub numbers-putPage : (p : ℕ) (bs : List ℕ) (d : List Page) → pageNumbers (putPage p bs d) ≡ addNumber p (pageNumbers d)
+numbers-putPage p bs [] = refl
+numbers-putPage p bs (g ∷ d) = split (eqb (g .number) p) (λ t. rw t) (λ f. rw (f, numbers-putPage p bs d))
+
+pub numbers-keep : (c : ℕ) (d : List Page) → pageNumbers (keepBelow c d) ≡ below c (pageNumbers d)
+numbers-keep c [] = refl
+numbers-keep c (g ∷ d) = split (ltb (g .number) c) (λ t. rw (t, numbers-keep c d)) (λ f. rw (f, numbers-keep c d))
+
+eqb-swap : (a b : ℕ) → eqb a b ≡ eqb b a
+eqb-swap a b = split (eqb a b) (λ t. t ∙ sym (eq-eqb b a (sym (eqb-true a b t)))) (λ f. f ∙ sym (ne-eqb b a (λ e. eqb-false a b f (sym e))))
+
+pub numbers-has : (d : List Page) (q : ℕ) → among (pageNumbers d) q ≡ holds d q
+numbers-has [] q = refl
+numbers-has (g ∷ d) q = rw (eqb-swap q (g .number), numbers-has d q)
+
+pub numbers-length : (d : List Page) → length (pageNumbers d) ≡ length d
+numbers-length [] = refl
+numbers-length (g ∷ d) = ap suc (numbers-length d)
+
+-- ## pools
+
+module _ (P : ℕ) where
+  pub pagesIn-sized : (ns pool : List ℕ) → Sized P (pagesIn P ns pool)
+  pagesIn-sized [] pool = tt
+  pagesIn-sized (n ∷ ns) pool = (length-resize P pool, pagesIn-sized ns (drop P pool))
+
+  pub numbers-pagesIn : (ns pool : List ℕ) → pageNumbers (pagesIn P ns pool) ≡ ns
+  numbers-pagesIn [] pool = refl
+  numbers-pagesIn (n ∷ ns) pool = rw (numbers-pagesIn ns (drop P pool))
+
+  -- the pages laid one behind the other are these pages
+  pub pagesIn-flat : (d : List Page) (t : List ℕ) → Sized P d → pagesIn P (pageNumbers d) (flat d ++ t) ≡ d
+  pagesIn-flat [] t s = refl
+  pagesIn-flat (g ∷ d) t s =
+      let a : (g .bytes ++ flat d) ++ t ≡ g .bytes ++ (flat d ++ t) = append-assoc (g .bytes) (flat d) t in
+      let e1 : resize P (g .bytes ++ (flat d ++ t)) ≡ g .bytes = subst (λ (n : ℕ). resize n (g .bytes ++ (flat d ++ t)) ≡ g .bytes) (s .0) (resize-seam (g .bytes) (flat d ++ t)) in
+      let e2 : drop P (g .bytes ++ (flat d ++ t)) ≡ flat d ++ t = drop-at (g .bytes) (flat d ++ t) P (s .0) in
+      rw (a, e1, e2, pagesIn-flat d t (s .1))
+
+  pub pagesIn-alike : (ns a b : List ℕ) → ((i : ℕ) → i < length ns * P → getD a i 0 ≡ getD b i 0) → pagesIn P ns a ≡ pagesIn P ns b
+  pagesIn-alike [] a b h = refl
+  pagesIn-alike (n ∷ ns) a b h =
+      let e : resize P a ≡ resize P b = resize-alike P a b (λ i k. h i (omega (arith, suc-mul (length ns) P))) in
+      let r : pagesIn P ns (drop P a) ≡ pagesIn P ns (drop P b) = pagesIn-alike ns (drop P a) (drop P b)
+      (λ i k. getD-drop P a i 0 ∙ h (P + i) (omega (arith, suc-mul (length ns) P)) ∙ sym (getD-drop P b i 0)) in
+      λ j. record { number = n; bytes = e j } ∷ r j
+
+  pub flat-length : (d : List Page) → Sized P d → length (flat d) ≡ length d * P
+  flat-length [] s = omega arith
+  flat-length (g ∷ d) s = omega (arith, length-append (g .bytes) (flat d), s .0, flat-length d (s .1), suc-mul (length d) P)
+
+-- ## Distinct pages
+
+-- no number stands twice
+abbrev pub Distinct : List ℕ → Type 0
+Distinct [] = Unit {0}
+Distinct (n ∷ ns) = (among ns n ≡ false) × Distinct ns
+
+among-add : (p q : ℕ) (ns : List ℕ) → (q ≡ p → ⊥) → among (addNumber p ns) q ≡ among ns q
+among-add p q [] ne = rw (ne-eqb q p ne)
+among-add p q (n ∷ ns) ne = split (eqb n p)
+    (λ t. rw (t, ne-eqb q p ne, eqb-true n p t, ne-eqb q p ne))
+    (λ f. rw (f, among-add p q ns ne))
+
+pub distinct-add : (p : ℕ) (ns : List ℕ) → Distinct ns → Distinct (addNumber p ns)
+distinct-add p [] d = (refl, tt)
+distinct-add p (n ∷ ns) d = split (eqb n p)
+    (λ t. rw t (subst (λ (x : ℕ). among ns x ≡ false) (eqb-true n p t) (d .0), d .1))
+    (λ f. rw f (among-add p n ns (eqb-false n p f) ∙ d .0, distinct-add p ns (d .1)))
+
+below-not : (c : ℕ) (ns : List ℕ) (q : ℕ) → among ns q ≡ false → among (below c ns) q ≡ false
+below-not c [] q h = refl
+below-not c (n ∷ ns) q h = split (eqb q n)
+    (λ t. clash (rw t) h)
+    (λ f. let r : among (below c ns) q ≡ false = below-not c ns q (rw f at h) in
+    split (ltb n c) (λ t. rw (t, f) r) (λ g. rw g r))
+
+pub distinct-below : (c : ℕ) (ns : List ℕ) → Distinct ns → Distinct (below c ns)
+distinct-below c [] d = tt
+distinct-below c (n ∷ ns) d = split (ltb n c)
+    (λ t. rw t (below-not c ns n (d .0), distinct-below c ns (d .1)))
+    (λ f. rw f (distinct-below c ns (d .1)))
+
+-- a page below c stays
+pub among-below : (c : ℕ) (ns : List ℕ) (q : ℕ) → q < c → among (below c ns) q ≡ among ns q
+among-below c [] q h = refl
+among-below c (n ∷ ns) q h = split (ltb n c)
+    (λ t. rw (t, among-below c ns q h))
+    (λ f. rw (f, ne-eqb q n (omega (arith, tests))) (among-below c ns q h))

@@ -1,0 +1,82 @@
+-- DEMAND 3: the store meets the claim.
+use mathlib.Core.Path.{_≡_, refl, sym, ap, _∙_, subst}
+use Prim.Native.Nat.{ℕ, zero, suc, _+_, _-_, _*_, _≤_, _<_}
+use native.Mathlib.Omega.{arith}
+use mathlib.Core.Bool.{Bool, true, false, not, cond}
+use mathlib.Core.List.{List, [], _∷_}
+use lib.ListN.{length, take}
+use Rattle.config.specs.declared.refusal.Refusal.the-variants.{BufferTooShort}
+use Rattle.memory.specs.Laws.{split}
+use Rattle.meta.specs.declared.superblock.Superblock.{Superblock}
+use Rattle.overlay.specs.declared.Overlay.{Overlay}
+use Rattle.blob.specs.declared.State.{State}
+use Rattle.blob.specs.Codec.{Codec, realCodec}
+use Rattle.blob.specs.Calls.{Call, Lent, Out, uses, Mode, modeIf, modeOf, short, withMem}
+use Rattle.blob.specs.Store.{refuse, act, swept, store}
+use Rattle.blob.specs.Opening.{open′}
+use Rattle.blob.specs.Lawful.{Lawful, Good}
+use Rattle.blob.specs.OpeningLaws.{Opens, opens}
+use Rattle.blob.specs.RealCodec.{real-lawful}
+use Rattle.plain_file.specs.Plain.{Plain, closed, drafting, fileOf, plainStep}
+use Rattle.plain_file.specs.Claim.{Owed, Nothing, Lends, leaves, Turn, told, atBegin, Word, Promise, Claim}
+use Rattle.plain_file.specs.Invariant.{Inv, InvMode, inv-back}
+use Rattle.plain_file.specs.Turns.{Turned, update-turn}
+use Rattle.plain_file.specs.IdleTurns.{idle-turn}
+
+module _ (P S C L M : ℕ) (k : Codec) (pos : 0 < P) (spos : 0 < S) (laws : Lawful S L M k) where
+  abbrev ours : State → Lent → Call → Out
+  ours = store P S C L M k
+
+  -- a state by its parts
+  abbrev made : ℕ → Superblock → Bool → Overlay → State
+  made c h u v = record { count = record { 0 = c }; block = h; updating = u; overlay = v }
+
+  turn : (c : ℕ) (h : Superblock) (u : Bool) (v : Overlay) (p : Plain) (m : List ℕ) (w l : Lent) (b : Call) → InvMode P S C L M k (modeIf u v) (made c h u v) p m w → Lends P S C L M k (made c h u v) w l → Word P S C L M k b
+      → short P S C L (made c h u v) l b ≡ false → Turned P S C L M k p m b l (swept P S C L M k (uses b .work?) (act P S C L M k (made c h u v) l b)) w
+  turn c h false v (closed f) m w l b i t z e = idle-turn P S C L M k pos spos laws c h v f m w l i t b z e
+  turn c h false v (drafting f d) m w l b i t z e = absurd i
+  turn c h true v (closed f) m w l b i t z e = absurd i
+  turn c h true v (drafting f d) m w l b i t z e = update-turn P S C L M k pos spos laws c h v f d m w l i t b z e
+
+  ours-short : (s : State) (l : Lent) (b : Call) → short P S C L s l b ≡ true → ours s l b ≡ refuse s l b BufferTooShort
+  unfolding store
+  ours-short s l b e = ap (λ (z : Bool). cond z (refuse s l b BufferTooShort) (swept P S C L M k (uses b .work?) (act P S C L M k s l b))) e
+
+  ours-done : (s : State) (l : Lent) (b : Call) → short P S C L s l b ≡ false → ours s l b ≡ swept P S C L M k (uses b .work?) (act P S C L M k s l b)
+  unfolding store
+  ours-done s l b e = ap (λ (z : Bool). cond z (refuse s l b BufferTooShort) (swept P S C L M k (uses b .work?) (act P S C L M k s l b))) e
+
+  done-turn : (s : State) (p : Plain) (m : List ℕ) (w l : Lent) (b : Call) → Inv P S C L M k s p m w → Lends P S C L M k s w l → Word P S C L M k b → short P S C L s l b ≡ false → Turned P S C L M k p m b l (ours s l b) w
+  done-turn s p m w l b i t z e = subst (λ (x : Out). Turned P S C L M k p m b l x w) (sym (ours-done s l b e)) (turn (s .count .0) (s .block) (s .updating) (s .overlay) p m w l b i t z e)
+
+  -- one induction over the list
+  keeps : (s : State) (p : Plain) (m : List ℕ) (w : Lent) → Inv P S C L M k s p m w → (ts : List (Turn P S C L M k)) → Promise P S C L M k ours s p m w ts
+  keeps s p m w i [] = tt
+  keeps s p m w i (t ∷ ts) = λ lends word. split (short P S C L s (t .lent) (t .call))
+      (λ e. rw e (
+      let q : ours s (t .lent) (t .call) ≡ refuse s (t .lent) (t .call) BufferTooShort = ours-short s (t .lent) (t .call) e in (
+        record { answer = ap (λ (x : Out). x .answer) q; state = ap (λ (x : Out). x .state) q; lent = ap (λ (x : Out). x .lent) q; filled = ap (λ (x : Out). x .filled) q },
+        keeps s p m (leaves P S C L M k (ours s (t .lent) (t .call) .lent) w)
+            (subst (λ (x : Out). Inv P S C L M k s p m (leaves P S C L M k (x .lent) w)) (sym q) (inv-back P S C L M k laws s p m (t .lent) w lends i)) ts,
+      )))
+      (λ e. rw e (
+      let r : Turned P S C L M k p m (t .call) (t .lent) (ours s (t .lent) (t .call)) w = done-turn s p m w (t .lent) (t .call) i lends word e in (
+        r .owed,
+        keeps (ours s (t .lent) (t .call) .state) (plainStep P S L M k p (t .call) (told P S C L M k (t .lent) (ours s (t .lent) (t .call))))
+            (atBegin P S C L M k p (plainStep P S L M k p (t .call) (told P S C L M k (t .lent) (ours s (t .lent) (t .call)))) m (take (ours s (t .lent) (t .call) .state .count .0 * S) (leaves P S C L M k (ours s (t .lent) (t .call) .lent) w .mem)))
+            (leaves P S C L M k (ours s (t .lent) (t .call) .lent) w) (r .inv) ts,
+      )))
+
+  -- every store of this shape, whatever its sizes and its lawful codec
+  pub meets : Claim P S C L M k ours
+  unfolding Claim
+  meets n w bytes most ok ts =
+      let x : Opens P S C L M k spos laws (open′ P S C L M k n (w .mem)) = opens P S C L M k spos laws n (w .mem) bytes most ok in
+      keeps (open′ P S C L M k n (w .mem) .state) (closed (fileOf P S L M k (open′ P S C L M k n (w .mem) .mem))) [] (withMem (open′ P S C L M k n (w .mem) .mem) w)
+      (subst (λ (u : Bool). InvMode P S C L M k (modeIf u (open′ P S C L M k n (w .mem) .state .overlay)) (open′ P S C L M k n (w .mem) .state) (closed (fileOf P S L M k (open′ P S C L M k n (w .mem) .mem))) [] (withMem (open′ P S C L M k n (w .mem) .mem) w))
+      (sym (x .idle)) (x .good, refl))
+      ts
+
+-- THE THEOREM: at 01's sizes, with 01's superblock and hash
+pub demand3 : Claim 16384 65536 8 1024 18446744073709551615 realCodec (store 16384 65536 8 1024 18446744073709551615 realCodec)
+demand3 = meets 16384 65536 8 1024 18446744073709551615 realCodec (omega arith) (omega arith) real-lawful
