@@ -23,11 +23,11 @@ abbrev pub optional : Bool → ZeroExtent → List ZeroExtent
 optional true x = x ∷ []
 optional false x = []
 
--- the pages below the final count
 abbrev pub keepIf : Bool → ℕ → List ℕ → List ℕ
 keepIf true p ps = p ∷ ps
 keepIf false p ps = ps
 
+-- the pages below the final count
 abbrev pub below : ℕ → List ℕ → List ℕ
 below final [] = []
 below final (p ∷ ps) = keepIf (ltb p final) p (below final ps)

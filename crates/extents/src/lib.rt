@@ -186,7 +186,7 @@ pub fn plan(
     requires { ⌜ (1025 + dirty * 2) * 2 ≤ length (now work) ⌝ }
     ensures { λ r. ⌜ outcome r (now (work .exit)) ≡ planned (length (now (work .entry))) (planOf 16384 1024 old new (imageRuns image (now (mem .entry))) (runsIn entries (now (recorded .entry))) (take dirty (now (numbers .entry)))) ⌝ }
 {
-    let count = runs::gather_image(work, mem, image);
+    let count = runs::copy_image(work, mem, image);
     plan_on(work, count, old, new, recorded, entries, numbers, dirty)
 }
 
@@ -205,6 +205,6 @@ pub fn plan_numbers(
     requires { ⌜ (image ≤ 1024) × ((1025 + dirty * 2) * 2 ≤ length (now work)) ⌝ }
     ensures { λ r. ⌜ outcome r (now (work .exit)) ≡ planned (length (now (work .entry))) (planOf 16384 1024 old new (runsIn image (now (extents .entry))) (runsIn entries (now (recorded .entry))) (take dirty (now (numbers .entry)))) ⌝ }
 {
-    let count = runs::gather(work, extents, image);
+    let count = runs::copy_runs(work, extents, image);
     plan_on(work, count, old, new, recorded, entries, numbers, dirty)
 }

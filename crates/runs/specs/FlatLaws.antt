@@ -153,6 +153,15 @@ runs-even (a ∷ b ∷ l) =
     let e : suc (suc (length l)) / 2 * 2 ≡ suc (suc (length l / 2 * 2)) = omega arith in
     rw e (λ k. run a b ∷ runs-even l k)
 
+runs-half : (v : List ℕ) → length (runsOf v) * 2 ≤ length v
+runs-half [] = omega arith
+runs-half (a ∷ []) = omega arith
+runs-half (a ∷ b ∷ v) = let r : length (runsOf v) * 2 ≤ length v = runs-half v in omega arith
+
+pub runsIn-length : (w : List ℕ) (n : ℕ) → length (runsIn n w) ≤ n
+unfolding runsIn
+runsIn-length w n = omega (arith, runs-half (take (n * 2) w), length-take (n * 2) w)
+
 -- there are no more runs than the numbers make
 pub runsIn-most : (w : List ℕ) (n : ℕ) → runsIn (min n (length w / 2)) w ≡ runsIn n w
 unfolding runsIn
@@ -432,6 +441,15 @@ laid-cleared n r w l h e =
 pub laid-runs : (n : ℕ) (l : List ZeroExtent) → runsIn (length l) (padded n (numbersOf l)) ≡ l
 unfolding runsIn padded
 laid-runs n l = runs-numbers l (replicate (n - length (numbersOf l)) 0)
+
+module _ (n r : ℕ) (w : List ℕ) (l : List ZeroExtent) (e : out w r ≡ laid n l) where
+  pub laid-count : r ≡ length l
+  unfolding laid
+  laid-count = ap (λ (o : Out). o .count) e
+
+  pub laid-held : runsIn r w ≡ l
+  unfolding laid
+  laid-held = let f : w ≡ padded n (numbersOf l) = ap (λ (o : Out). o .work) e in rw (f, laid-count) (laid-runs n l)
 
 pub padded-none : (n : ℕ) → padded n [] ≡ replicate n 0
 unfolding padded

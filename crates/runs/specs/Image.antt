@@ -9,7 +9,7 @@ use Rattle.meta.specs.declared.ZeroExtent.{ZeroExtent}
 use Rattle.meta.specs.Runs.{run, runsOf}
 use Rattle.meta.specs.Words.{de, wordAt, wordsIn, wordAt-drop, wordsIn-at, length-wordsIn}
 use Rattle.runs.specs.Flat.{runsIn, at, upto}
-use Rattle.runs.specs.FlatLaws.{runsIn-upto}
+use Rattle.runs.specs.FlatLaws.{runsIn-upto, length-upto}
 
 -- 01: "From 160 follow at most 1,024 zero runs of 16 bytes". Of n such runs, those that lie whole in the bytes
 unfoldable pub imageCount : ℕ → List ℕ → ℕ
@@ -48,6 +48,9 @@ unfolding runsIn
 image-upto n mem =
     sym (runsIn-upto (imageNumbers n mem) (imageCount n mem) (omega (arith, length-image n mem)))
     ∙ ap runsOf (take-all (imageCount n mem * 2) (imageNumbers n mem) (omega (arith, length-image n mem)))
+
+pub image-few : (n : ℕ) (mem : List ℕ) → length (imageRuns n mem) ≤ 1024
+image-few n mem = omega (arith, ap length (image-upto n mem), length-upto (imageNumbers n mem) 0 (imageCount n mem), image-most n mem)
 
 -- run i of the image
 pub image-at : (n i : ℕ) (mem : List ℕ) → i < imageCount n mem → at (imageNumbers n mem) i ≡ run (wordAt (160 + i * 16) mem) (wordAt (168 + i * 16) mem)

@@ -112,6 +112,10 @@ maximal-empty x l h = add-none x (maximal l) h
 pub maximal-more : (x : ZeroExtent) (l : List ZeroExtent) → length (maximal (x ∷ l)) ≤ suc (length (maximal l))
 maximal-more x l = add-length x (maximal l)
 
+pub maximal-length : (l : List ZeroExtent) → length (maximal l) ≤ length l
+maximal-length [] = omega arith
+maximal-length (x ∷ l) = let r : length (maximal l) ≤ length l = maximal-length l in omega (arith, maximal-more x l)
+
 pub covers-append : (l k : List ZeroExtent) (p : ℕ) → covers (l ++ k) p ≡ (covers l p || covers k p)
 covers-append [] k p = refl
 covers-append (x ∷ l) k p = split (within x p) (λ t. rw t) (λ f. rw f (covers-append l k p))

@@ -55,7 +55,7 @@ pub fn image_covers(mem: &[u8], count: usize, page: u64) -> bool
 }
 
 // The maximal runs of the image's set, in front of the list: how many they are. A run behind all others is placed at once.
-pub fn gather_image(work: &mut [u64], mem: &[u8], count: usize) -> usize
+fn gather_image(work: &mut [u64], mem: &[u8], count: usize) -> usize
     requires { ⌜ 2048 ≤ length (now work) ⌝ }
     ensures { λ r. ⌜ (runsIn r (now (work .exit)) ≡ maximal (imageRuns count (now (mem .entry)))) × (r ≤ 1024) ⌝ }
 {

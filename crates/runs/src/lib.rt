@@ -3,14 +3,12 @@ mod image;
 mod work;
 
 pub use image::copy_image;
-pub use image::gather_image;
 pub use image::image_covers;
 pub use work::add;
 pub use work::at_most;
 pub use work::clear;
 pub use work::copy_runs;
 pub use work::covered;
-pub use work::gather;
 pub use work::is_normalized;
 pub use work::read;
 pub use work::remove;

@@ -263,7 +263,7 @@ pub fn clear(work: &mut [u64], from: usize)
 }
 
 // The maximal runs of the set that the first `count` runs denote, any runs, in front of the list: how many they are.
-pub fn gather(work: &mut [u64], runs: &[u64], count: usize) -> usize
+fn gather(work: &mut [u64], runs: &[u64], count: usize) -> usize
     requires { ⌜ count * 2 ≤ length (now work) ⌝ }
     ensures { λ r. ⌜ (runsIn r (now (work .exit)) ≡ maximal (runsIn count (now (runs .entry)))) × (r ≤ count) ⌝ }
 {
