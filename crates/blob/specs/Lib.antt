@@ -7,6 +7,7 @@ pub mod Opening
 pub mod Lawful
 pub mod MemoryLaws
 pub mod CommitLaws
+pub mod StoreLaws
 pub mod RealCodec
 pub mod OpeningLaws
 pub mod Small

@@ -103,9 +103,9 @@ pub store-plan : (P top old new : ℕ) (image recorded : List ZeroExtent) (dirty
 unfolding storePlan
 store-plan P top old new image recorded dirty t =
     let ps : List ℕ = below (count P new) dirty in
-    let limit : ℕ = top + length ps in
-    let a : Answer = stepAdds limit (additions P old new []) (kept image) in
-    let b : Answer = stepAdds limit recorded a in
-    let ta : Tidy a = adds-tidy limit (additions P old new []) (kept image) t in
-    remain-step top ps b (adds-tidy limit recorded a ta)
-    ∙ plan-parts P top old new image recorded dirty a b (adds-norm limit (additions P old new []) (kept image) t) (adds-norm limit recorded a ta)
+    let most : ℕ = top + length ps in
+    let a : Answer = stepAdds most (additions P old new []) (kept image) in
+    let b : Answer = stepAdds most recorded a in
+    let ta : Tidy a = adds-tidy most (additions P old new []) (kept image) t in
+    remain-step top ps b (adds-tidy most recorded a ta)
+    ∙ plan-parts P top old new image recorded dirty a b (adds-norm most (additions P old new []) (kept image) t) (adds-norm most recorded a ta)

@@ -18,7 +18,7 @@ use Rattle.runs.specs.FlatLaws.{length-numbers, length-runsIn}
 use Rattle.overlay.specs.declared.Overlay.{Overlay}
 use Rattle.overlay.specs.declared.CleanCache.{CleanCache}
 use Rattle.overlay.specs.Lists.{refill}
-use Rattle.overlay.specs.ListLaws.{clash, tests, resize-seam, refill-front, refill-length, refill-keeps, take-alike}
+use Rattle.overlay.specs.ListLaws.{clash, tests, resize-seam, refill-freed, refill-past, refill-keeps, take-alike}
 use Rattle.overlay.specs.Pages.{Page, pageNumbers, flat, pagesIn}
 use Rattle.overlay.specs.PageLaws.{Sized, pagesIn-flat, pagesIn-alike, numbers-length, flat-length}
 use Rattle.overlay.specs.Update.{Over, fresh}
@@ -100,3 +100,62 @@ module _ (P C : ℕ) where
         cache = pagesIn-alike P (cached P C (v .cache)) (a .clean) (b .clean) c i;
         budget = v .budget;
       }
+
+  -- ## What is given back
+
+  -- an update that the lent slices have room for
+  pub record Roomy (v : Overlay) (w : Over) (l : Buffers) : Type 0 where
+    pub sized : Sized P (w .dirty)
+    pub clean : Sized P (w .cache)
+    pub was : v .dirty * P ≤ length (l .frames)
+    pub was-numbers : v .dirty ≤ length (l .numbers)
+    pub was-recs : v .recorded * 2 ≤ length (l .recs)
+    pub was-clean : length (cached P C (v .cache)) * P ≤ length (l .clean)
+    pub frames : length (w .dirty) * P ≤ length (l .frames)
+    pub numbers : length (w .dirty) ≤ length (l .numbers)
+    pub recs : length (w .recorded) * 2 ≤ length (l .recs)
+    pub cache : length (w .cache) * P ≤ length (l .clean)
+
+  -- every slice keeps its length, freed places are zeros, and places never used stay
+  pub record GivenBack (v : Overlay) (w : Over) (l x : Buffers) : Type 0 where
+    pub frames : length (x .frames) ≡ length (l .frames)
+    pub numbers : length (x .numbers) ≡ length (l .numbers)
+    pub recs : length (x .recs) ≡ length (l .recs)
+    pub clean : length (x .clean) ≡ length (l .clean)
+    pub freed : (i : ℕ) → length (w .dirty) * P ≤ i → i < v .dirty * P → getD (x .frames) i 0 ≡ 0
+    pub freed-numbers : (i : ℕ) → length (w .dirty) ≤ i → i < v .dirty → getD (x .numbers) i 0 ≡ 0
+    pub freed-clean : (i : ℕ) → length (w .cache) * P ≤ i → i < length (cached P C (v .cache)) * P → getD (x .clean) i 0 ≡ 0
+    pub unused : (i : ℕ) → length (w .dirty) * P ≤ i → v .dirty * P ≤ i → getD (x .frames) i 0 ≡ getD (l .frames) i 0
+
+  pub given-back : (v : Overlay) (w : Over) (l : Buffers) → Roomy v w l → GivenBack v w l (putBack P C v w l)
+  unfolding putBack
+  given-back v w l r =
+      let f : length (flat (w .dirty)) ≡ length (w .dirty) * P = flat-length P (w .dirty) (r .sized) in
+      let c : length (flat (w .cache)) ≡ length (w .cache) * P = flat-length P (w .cache) (r .clean) in
+      record {
+        frames = refill-keeps (v .dirty * P) (flat (w .dirty)) (l .frames) (r .was) (omega (arith, r .frames));
+        numbers = refill-keeps (v .dirty) (pageNumbers (w .dirty)) (l .numbers) (r .was-numbers) (omega (arith, numbers-length (w .dirty), r .numbers));
+        recs = refill-keeps (v .recorded * 2) (numbersOf (w .recorded)) (l .recs) (r .was-recs) (omega (arith, length-numbers (w .recorded), r .recs));
+        clean = refill-keeps (length (cached P C (v .cache)) * P) (flat (w .cache)) (l .clean) (r .was-clean) (omega (arith, r .cache));
+        freed = λ i h k. refill-freed (v .dirty * P) (flat (w .dirty)) (l .frames) i (omega arith) k;
+        freed-numbers = λ i h k. refill-freed (v .dirty) (pageNumbers (w .dirty)) (l .numbers) i (omega (arith, numbers-length (w .dirty))) k;
+        freed-clean = λ i h k. refill-freed (length (cached P C (v .cache)) * P) (flat (w .cache)) (l .clean) i (omega arith) k;
+        unused = λ i h k. refill-past (v .dirty * P) (flat (w .dirty)) (l .frames) i (omega arith) k;
+      }
+
+-- after the end of an update: lengths stay, and all is zeros
+pub wiped-frames : (l : Buffers) → wiped l .frames ≡ zeros (length (l .frames))
+unfolding wiped
+wiped-frames l = refl
+
+pub wiped-numbers : (l : Buffers) → wiped l .numbers ≡ zeros (length (l .numbers))
+unfolding wiped
+wiped-numbers l = refl
+
+pub wiped-clean : (l : Buffers) → wiped l .clean ≡ zeros (length (l .clean))
+unfolding wiped
+wiped-clean l = refl
+
+pub wiped-recs : (l : Buffers) → wiped l .recs ≡ zeros (length (l .recs))
+unfolding wiped
+wiped-recs l = refl

@@ -487,3 +487,16 @@ module _ (P : ℕ) (pos : 0 < P) (b : ℕ → ℕ) (z0 : ℕ) where
       (λ t. let m : max (v .size) n ≡ n = omega (arith, tests) in
       rw m (push-none (count P n) (count P n) _ (omega arith) ∙ sym (push-none (count P n) (count P (v .size)) _ (count-mono (v .size) n (omega (arith, tests))))))
       (λ f. let m : max (v .size) n ≡ v .size = omega (arith, tests) in rw m))
+
+  -- ## The tail of the last page
+
+  -- 01: "zeroing its tail": after a truncation the bytes past the size in the last page are zeros
+  pub tail-zero : (n : ℕ) (v : Over) (o : ℕ) → partial P n ≡ true → n ≤ o → o / P ≡ n / P → raw P b (truncated P b n v) o ≡ 0
+  unfolding truncated tail
+  tail-zero n v o t h e =
+      rw (truncated, tail, t) (touch-in true _ (n / P) _ o (sym e) ∙ blank-in P n (n + P) o _ h
+      (omega (arith, page-hi P pos o, page-lo P pos n, ap (λ (q : ℕ). q * P) e)))
+
+  -- a grown update reads as zeros from its old size on
+  pub grown-zero : (n : ℕ) (v : Over) → v .size < n → Shape P (count P (v .size)) v → (o : ℕ) → v .size ≤ o → o < n → raw P b (grow P b n v) o ≡ 0
+  grown-zero n v h s o lo hi = grown n v h s .new o lo hi

@@ -8,4 +8,5 @@ pub mod PageLaws
 pub mod Changes
 pub mod Refused
 pub mod Reading
+pub mod Refusals
 pub mod BufferLaws

@@ -10,7 +10,7 @@ use lib.ListN.{length, take, drop, getD, replicate, length-append, length-take, 
 use lib.Seq.{getD-take, getD-drop, getD-append-add, ext-getD, drop-append-seam, take-append-seam}
 use borrow.Author.Tests.{ltb-true, ltb-false, leb-true, leb-false, eqb-true, eqb-false, lt-ltb, le-ltb, le-leb, lt-leb, eq-eqb, ne-eqb}
 use Rattle.memory.specs.Bytes.{zeros, resize}
-use Rattle.memory.specs.Laws.{split, append-at, length-zeros, length-resize, resize-in}
+use Rattle.memory.specs.Laws.{split, append-at, length-zeros, zeros-at, length-resize, resize-in}
 use Rattle.overlay.specs.Lists.{put, refill, tabulate, tabulateFrom, inside}
 
 pub clash {ℓ} : {X : Type ℓ} {b : Bool} → b ≡ true → b ≡ false → X
@@ -121,3 +121,20 @@ refill-keeps n xs w h k = simp (length-append, length-drop, length-zeros) (omega
 pub refill-front : (n : ℕ) (xs w : List ℕ) → resize (length xs) (refill n xs w) ≡ xs
 unfolding refill
 refill-front n xs w = resize-seam xs _
+
+-- places that were in use and are left over are zeros
+pub refill-freed : (n : ℕ) (xs w : List ℕ) (i : ℕ) → length xs ≤ i → i < n → getD (refill n xs w) i 0 ≡ 0
+unfolding refill
+refill-freed n xs w i h k =
+    append-at xs _ i h
+    ∙ List·getD-append (zeros (n - length xs)) _ 0 (i - length xs) (omega (arith, length-zeros (n - length xs)))
+    ∙ zeros-at (n - length xs) (i - length xs)
+
+-- places that were never in use stay
+pub refill-past : (n : ℕ) (xs w : List ℕ) (i : ℕ) → length xs ≤ i → n ≤ i → getD (refill n xs w) i 0 ≡ getD w i 0
+unfolding refill
+refill-past n xs w i h k =
+    append-at xs _ i h
+    ∙ append-at (zeros (n - length xs)) _ (i - length xs) (omega (arith, length-zeros (n - length xs)))
+    ∙ getD-drop (max n (length xs)) w _ 0
+    ∙ ap (λ (j : ℕ). getD w j 0) (omega (arith, length-zeros (n - length xs)))
