@@ -1,0 +1,3 @@
+pub mod Shapes
+pub mod Calls1
+pub mod Calls2
