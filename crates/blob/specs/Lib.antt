@@ -8,6 +8,7 @@ pub mod Lawful
 pub mod MemoryLaws
 pub mod CommitLaws
 pub mod StoreLaws
+pub mod BufferLengths
 pub mod RealCodec
 pub mod OpeningLaws
 pub mod Small

@@ -19,16 +19,16 @@ use Rattle.overlay.specs.Pages.{Page, pageNumbers, holds, putPage, keepB
 use Rattle.overlay.specs.Update.{Over, pushRun, raw, touch, touchAll, blank, copy, stretch, patch, finish, grow, growTo, chop, tail, truncated, wholePage, overWrite, written}
 use Rattle.overlay.specs.PageLaws.{push-in, push-lo, push-none, push-keeps, putPage-hit, putPage-miss, putPage-keeps, keep-low, keep-high, Sized, sized-putPage, sized-keep, byte-clean, byte-hit, byte-miss, byte-keep, byte-drop, numbers-putPage, numbers-keep}
 
--- a reader of the page does not lookUp at the image
+-- a reader of the page does not look at the image
 abbrev pub hidden : Over → ℕ → Bool
 hidden v q = holds (v .dirty) q || covers (v .recorded) q
 
--- c pages at most are dirty pages' numbers, and each has P bytes
+-- every dirty page is below c, and has P bytes
 pub record Shape (P c : ℕ) (v : Over) : Type 0 where
   pub low : (q : ℕ) → c ≤ q → holds (v .dirty) q ≡ false
   pub sized : Sized P (v .dirty)
 
--- ## the invariant: the update v, of m bytes, on an image of z bytes b, holds the bytes of d (and zeros past the end of d)
+-- The invariant: the update v, of m bytes, on an image of z bytes b, holds the bytes of d (and zeros past the end of d)
 pub record Like (P : ℕ) (b : ℕ → ℕ) (z : ℕ) (v : Over) (m : ℕ) (d : List ℕ) : Type 0 where
   pub size-is : v .size ≡ m
   pub same-as : (o : ℕ) → o < m → raw P b v o ≡ getD d o 0

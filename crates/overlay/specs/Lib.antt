@@ -9,4 +9,5 @@ pub mod Changes
 pub mod Refused
 pub mod Reading
 pub mod Refusals
+pub mod Rooms
 pub mod BufferLaws

@@ -43,6 +43,19 @@ pub ends-push : (M a e : ℕ) (rs : List ZeroExtent) → e ≤ M → EndsBy M rs
 unfolding pushRun
 ends-push M a e rs h b = split (ltb a e) (λ t. rw t (ends-append M rs _ b (h, tt))) (λ f. rw f b)
 
+-- every run has a page in it
+abbrev pub Filled : List ZeroExtent → Type 0
+Filled [] = Unit {0}
+Filled (r ∷ rs) = (r .start < r .end) × Filled rs
+
+filled-append : (rs ss : List ZeroExtent) → Filled rs → Filled ss → Filled (rs ++ ss)
+filled-append [] ss a b = b
+filled-append (r ∷ rs) ss a b = (a .0, filled-append rs ss (a .1) b)
+
+pub filled-push : (a e : ℕ) (rs : List ZeroExtent) → Filled rs → Filled (pushRun a e rs)
+unfolding pushRun
+filled-push a e rs b = split (ltb a e) (λ t. rw t (filled-append rs _ b (ltb-true a e t, tt))) (λ f. rw f b)
+
 -- a page that is covered lies before M
 pub ends-covers : (M : ℕ) (rs : List ZeroExtent) (q : ℕ) → EndsBy M rs → covers rs q ≡ true → q < M
 ends-covers M [] q b h = clash h refl

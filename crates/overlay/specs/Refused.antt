@@ -18,7 +18,7 @@ use Rattle.overlay.specs.ListLaws.{clash, tests, length-tabulate, tabula
 use Rattle.overlay.specs.Pages.{Page, pageNumbers, holds, putPage, keepBelow, dropPage, pageByte, partial, span}
 use Rattle.overlay.specs.Image.{imagePage}
 use Rattle.overlay.specs.Update.{Over, raw, touch, touchAll, blank, copy, stretch, patch, finish, grow, growTo, chop, tail, truncated, wholePage, overWrite, written, lookUp, Tried, accepted, refused, andThen, sized, keepSize, passing, marked, tryTouch, tryTouchAll, room, tryPatch, tryFinish, tryGrow, tryGrowTo, tryTail, tryChop, tryTruncate, tryWrite}
-use Rattle.overlay.specs.PageLaws.{Sized, sized-putPage, sized-keep, EndsBy, ends-push, Distinct, distinct-add, distinct-below, numbers-putPage, numbers-keep}
+use Rattle.overlay.specs.PageLaws.{Sized, sized-putPage, sized-keep, EndsBy, ends-push, Filled, filled-push, Distinct, distinct-add, distinct-below, numbers-putPage, numbers-keep}
 
 -- every cached page is the image's
 abbrev pub AllImage : ℕ → (ℕ → ℕ) → List Page → Type 0
@@ -73,6 +73,7 @@ pub record Weak (P C M : ℕ) (b : ℕ → ℕ) (v : Over) : Type 0 where
   pub few : length (v .cache) ≤ C
   pub range : v .size ≤ M
   pub ends : EndsBy M (v .recorded)
+  pub filled : Filled (v .recorded)
 
 -- a refusal that is no commit's alone
 abbrev pub Early : Refusal → Type 0
@@ -94,10 +95,10 @@ module _ (P C M : ℕ) (pos : 0 < P) (b : ℕ → ℕ) where
       let s : Sized P (putPage p (tabulate P (λ i. u (p * P + i) (raw P b v (p * P + i)))) (v .dirty)) = sized-putPage P p _ (v .dirty) (length-tabulate P _) (w .sized) in
       let d : Distinct (pageNumbers (putPage p (tabulate P (λ i. u (p * P + i) (raw P b v (p * P + i)))) (v .dirty))) = rw numbers-putPage (distinct-add p (pageNumbers (v .dirty)) (w .distinct)) in
       split (holds (v .dirty) p)
-      (λ t. record { sized = s; distinct = d; cached = rw (touch, t) (w .cached); few = rw (touch, t) (w .few); range = w .range; ends = w .ends })
+      (λ t. record { sized = s; distinct = d; cached = rw (touch, t) (w .cached); few = rw (touch, t) (w .few); range = w .range; ends = w .ends; filled = w .filled })
       (λ f. split (l && not (covers (v .recorded) p))
-      (λ t. record { sized = s; distinct = d; cached = rw (touch, f, t) (all-dropPage P b p (v .cache) (w .cached)); few = rw (touch, f, t) (omega (arith, few-dropPage p (v .cache), w .few)); range = w .range; ends = w .ends })
-      (λ n. record { sized = s; distinct = d; cached = rw (touch, f, n) (w .cached); few = rw (touch, f, n) (w .few); range = w .range; ends = w .ends }))
+      (λ t. record { sized = s; distinct = d; cached = rw (touch, f, t) (all-dropPage P b p (v .cache) (w .cached)); few = rw (touch, f, t) (omega (arith, few-dropPage p (v .cache), w .few)); range = w .range; ends = w .ends; filled = w .filled })
+      (λ n. record { sized = s; distinct = d; cached = rw (touch, f, n) (w .cached); few = rw (touch, f, n) (w .few); range = w .range; ends = w .ends; filled = w .filled }))
 
   stretch-weak : (n : ℕ) (v : Over) → n ≤ M → Weak P C M b v → Weak P C M b (stretch P n v)
   unfolding stretch
@@ -108,15 +109,16 @@ module _ (P C M : ℕ) (pos : 0 < P) (b : ℕ → ℕ) where
     few = w .few;
     range = h;
     ends = ends-push M (count P (v .size)) (count P n) (v .recorded) (omega (arith, count-le P pos n)) (w .ends);
+    filled = filled-push (count P (v .size)) (count P n) (v .recorded) (w .filled);
   }
 
   chop-weak : (n : ℕ) (v : Over) → n ≤ M → Weak P C M b v → Weak P C M b (chop P n v)
   unfolding chop
-  chop-weak n v h w = record { range = h; ends = ends-push M (count P n) (count P (v .size)) (v .recorded) (omega (arith, count-le P pos (v .size), w .range)) (w .ends); sized = sized-keep P (count P n) (v .dirty) (w .sized); distinct = rw numbers-keep (distinct-below (count P n) (pageNumbers (v .dirty)) (w .distinct)); cached = all-keepBelow P b (count P n) (v .cache) (w .cached); few = omega (arith, few-keepBelow (count P n) (v .cache), w .few) }
+  chop-weak n v h w = record { range = h; ends = ends-push M (count P n) (count P (v .size)) (v .recorded) (omega (arith, count-le P pos (v .size), w .range)) (w .ends); filled = filled-push (count P n) (count P (v .size)) (v .recorded) (w .filled); sized = sized-keep P (count P n) (v .dirty) (w .sized); distinct = rw numbers-keep (distinct-below (count P n) (pageNumbers (v .dirty)) (w .distinct)); cached = all-keepBelow P b (count P n) (v .cache) (w .cached); few = omega (arith, few-keepBelow (count P n) (v .cache), w .few) }
 
   sized-weak : (n : ℕ) (v : Over) → n ≤ M → Weak P C M b v → Weak P C M b (sized n v)
   unfolding sized
-  sized-weak n v h w = record { sized = w .sized; distinct = w .distinct; cached = w .cached; few = w .few; range = h; ends = w .ends }
+  sized-weak n v h w = record { sized = w .sized; distinct = w .distinct; cached = w .cached; few = w .few; range = h; ends = w .ends; filled = w .filled }
 
   keepSize-out : (z : ℕ) (t : Tried) (x : Over) → z ≤ M → Outcome (Weak P C M b) t x → Outcome (Weak P C M b) (keepSize z t) x
   keepSize-out z (accepted w) x j h = h
@@ -133,12 +135,13 @@ module _ (P C M : ℕ) (pos : 0 < P) (b : ℕ → ℕ) where
         few = simp (length-drop, length-append) (omega arith);
         range = w .range;
         ends = w .ends;
+        filled = w .filled;
       })
 
   module _ (F R : ℕ) where
     marked-weak : (v : Over) → Weak P C M b v → Weak P C M b (marked P M F R v)
     unfolding marked
-    marked-weak v w = record { sized = w .sized; distinct = w .distinct; cached = w .cached; few = w .few; range = w .range; ends = w .ends }
+    marked-weak v w = record { sized = w .sized; distinct = w .distinct; cached = w .cached; few = w .few; range = w .range; ends = w .ends; filled = w .filled }
 
     touch-out : (l : Bool) (u : ℕ → ℕ → ℕ) (p : ℕ) (v : Over) → Weak P C M b v → Outcome (Weak P C M b) (tryTouch P M F R b l u p v) (touch P b l u p v)
     unfolding tryTouch

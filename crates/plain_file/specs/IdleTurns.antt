@@ -78,7 +78,7 @@ module _ (P S C L M : ℕ) (k : Codec) (pos : 0 < P) (spos : 0 < S) (laws : Lawf
 
   fresh-weak : (x : ℕ → ℕ) (z : ℕ) (b : Budget) → z ≤ M → Weak P C M x (fresh P z b)
   unfolding fresh
-  fresh-weak x z b h = record { sized = tt; distinct = tt; cached = tt; few = omega arith; range = h; ends = tt }
+  fresh-weak x z b h = record { sized = tt; distinct = tt; cached = tt; few = omega arith; range = h; ends = tt; filled = tt }
 
   -- ## A block is stored anew
 
