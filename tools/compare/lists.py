@@ -2,7 +2,7 @@
 import copy
 import random
 from scenes import SCENES
-from model import FIELDS, IMPORTING, REFRESHING, STALE, Lent, Params, RealCodec, SmallCodec, Store, ceil_div, normalize
+from model import FIELDS, IMPORTING, REFRESHING, STALE, MEMORY_ONLY, Lent, Params, RealCodec, SmallCodec, Store, ceil_div, normalize
 
 # P, S, C, L, M; the number after the largest one is a multiple of P, as 2^64 is of a page
 SETS = {
@@ -211,7 +211,7 @@ class Lists:
 
     # slices lent
 
-    def lend(self, steady=False):
+    def lend(self, steady=False, which=None):
         """The live parts as they were left; the rest is zeros, garbage or as left; now and then a slice is too short."""
         p, v, old, r = self.par, self.state.overlay, self.lent, self.rnd
         live = v if self.state.updating else self.store.no_overlay()
@@ -227,15 +227,14 @@ class Lists:
         )
         parts = dict(mem=self.state.count * p.S, frames=live.dirty * p.P, numbers=live.dirty, clean=live.cache_count * p.P, recs=2 * live.recorded)
         if not steady and self.chance(7):
-            self.shorten(lengths, parts)
+            self.shorten(lengths, parts, which or r.choice(list(lengths)))
         slices = {k: self.fill(getattr(old, k)[:n if self.chance(60) else len(getattr(old, k))], lengths[k]) for k, n in parts.items()}
         held = min(lengths["frames"] // p.P, lengths["numbers"])
         need = 2 * (p.L + 1 + 2 * held)
         work = need - r.choice((1, 2)) if not steady and self.chance(2) else need + (r.choice((0, 1, 4)) if vary else 0)
         return Lent(work=self.fill([], max(0, work)), **slices)
 
-    def shorten(self, lengths, parts):
-        which = self.rnd.choice(list(lengths))
+    def shorten(self, lengths, parts, which):
         floor = self.par.C * self.par.P if which == "clean" else parts[which]
         lengths[which] = max(0, floor - self.rnd.choice((0, 1, 1, 2)))
 
@@ -300,11 +299,13 @@ class Lists:
         part = left[:n] if n <= len(left) else left + [9]
         if self.par.M < 100 and self.chance(4):
             part = self.bytes(self.par.M + 1 - at)
+        if b["import_total_size"] == self.par.M < 100:
+            part = self.bytes(max(0, self.par.M + r.randrange(2) - b["import_base_offset"] - at))
         return (max(0, at + r.choice((-1, 1, 2))) if self.chance(7) else at), part
 
     def one(self):
         kind = self.next_kind()
-        lent = self.lend()
+        lent = self.lend(which="mem" if kind in MEMORY_ONLY else None)
         if self.chance(1):
             self.other_state()
         self.make((kind, *self.arguments(kind)), lent)
@@ -323,6 +324,8 @@ class Lists:
         self.state = copy.deepcopy(self.state)
         if self.state.updating:
             self.state.block["flags"] ^= IMPORTING
+        elif self.state.block["flags"] & IMPORTING and self.par.M < 100:
+            self.state.block["import_total_size"] = self.par.M
         else:
             self.state.overlay.size, self.state.overlay.dirty, self.state.overlay.recorded = self.bytes(3)
 

@@ -71,5 +71,13 @@ def moved_up(p):
     return dict(size=0, runs=[], frames=[1, 1, 3, 3, 3], calls=calls)
 
 
+def past_all_numbers(p):
+    """An import whose end is no number; no image accepted at opening has one."""
+    calls = [("importBegin", 2, 3), ("importChunk", 0, [5]), ()]
+    rest = p.M - 2 * p.S - 1
+    calls += [("importChunk", 1, byte_list(rest + 1)), ("importChunk", 1, [])] if p.M < 100 and rest >= 0 else []
+    return dict(size=1, runs=[], frames=1, calls=calls)
+
+
 SCENES = [unmerged_record, far_dirty, left_in_old_page, left_in_new_page, all_pages, cached_then_written, at_the_end_of_numbers, both_open,
-          import_over_refresh, moved_up]
+          import_over_refresh, moved_up, past_all_numbers]
