@@ -23,10 +23,10 @@ use Rattle.overlay.specs.declared.Overlay.{Overlay}
 use Rattle.overlay.specs.ListLaws.{clash}
 use Rattle.overlay.specs.Pages.{pageNumbers, pagesIn}
 use Rattle.overlay.specs.PageLaws.{pagesIn-sized, numbers-pagesIn, numbers-length}
-use Rattle.overlay.specs.Update.{Over, fresh, readOver, Tried, accepted, refused, left, tryWrite, tryTruncate}
+use Rattle.overlay.specs.Update.{Over, fresh, readOver, Tried, accepted, refused, left, tryWrite, tryTruncate, truncateReach}
 use Rattle.overlay.specs.Buffers.{Buffers, frameCount, entryCount, wiped, cached, shortBuffers, view, putBack}
 use Rattle.overlay.specs.BufferLaws.{Roomy, GivenBack, given-back}
-use Rattle.overlay.specs.Rooms.{Room, write-room, truncate-room, read-room}
+use Rattle.overlay.specs.Rooms.{Room, write-room, truncate-room, try-grow, read-room}
 use Rattle.blob.specs.declared.State.{State}
 use Rattle.blob.specs.declared.Answer.{Answer}
 use Rattle.blob.specs.Codec.{Codec}
@@ -106,14 +106,14 @@ module _ (P S C L M : ℕ) (k : Codec) (pos : 0 < P) where
     fits n h = let d : n ≤ length (l .frames) / P = omega arith in (le-div-iff-mul-le {x = n} pos .0 d, omega arith)
 
     -- and so does what is put back
-    put-same : (w : Over) → Room P (frameCount P l) (entryCount l) C w → SameLengths l (putBack P C v w l)
+    put-same : (n : ℕ) (w : Over) → n ≤ frameCount P l → Room P (frameCount P l) (entryCount l) C w → SameLengths l (putBack P C v n w l)
     unfolding entryCount
-    put-same w r =
-        let g : GivenBack P C v w l (putBack P C v w l) = given-back P C v w l (record {
+    put-same n w h r =
+        let g : GivenBack P C v n w l (putBack P C v n w l) = given-back P C v n w l (record {
           sized = r .sized;
           clean = r .clean;
-          was = fits (v .dirty) held-dirty .0;
-          was-numbers = fits (v .dirty) held-dirty .1;
+          was = fits n h .0;
+          was-numbers = fits n h .1;
           was-recs = held-recs;
           was-clean = le-trans (mul-le-mul-right P few-cached) held-clean;
           frames = fits (length (w .dirty)) (r .dirty) .0;
@@ -208,17 +208,18 @@ module _ (P S C L M : ℕ) (k : Codec) (pos : 0 < P) where
   module _ (s : State) (l : Lent) where
     read-same : (o n : ℕ) (t : Mode) → buffersShort P S C L t (l .bufs) ≡ false → Q l (doRead P S C L M k s l o n t)
     read-same o n idle e = same (l .bufs)
-    read-same o n (update v) e = put-same v (l .bufs) e _ (read-room P M (frameCount P (l .bufs)) (entryCount (l .bufs)) C (image P S C L M k (s .block) (l .mem)) o n (view P C v (l .bufs)) (view-room v (l .bufs) e))
+    read-same o n (update v) e = put-same v (l .bufs) e (v .dirty) _ (held-dirty v (l .bufs) e) (read-room P M (frameCount P (l .bufs)) (entryCount (l .bufs)) C (image P S C L M k (s .block) (l .mem)) o n (view P C v (l .bufs)) (view-room v (l .bufs) e))
 
     write-same : (o : ℕ) (bs : List ℕ) (t : Mode) → buffersShort P S C L t (l .bufs) ≡ false
-        → Q l (change P S C L M k s l (tryWrite P M (frameCount P (l .bufs)) (entryCount (l .bufs)) (image P S C L M k (s .block) (l .mem)) o bs) t)
+        → Q l (change P S C L M k s l (tryWrite P M (frameCount P (l .bufs)) (entryCount (l .bufs)) (image P S C L M k (s .block) (l .mem)) o bs) (λ u. 0) t)
     write-same o bs idle e = direct-same s l (tryWrite P M (frameCount P (l .bufs)) (entryCount (l .bufs)) (image P S C L M k (s .block) (l .mem)) o bs (fresh P (s .block .«db_size») (budgetOf false 0 0)))
-    write-same o bs (update v) e = put-same v (l .bufs) e _ (write-room P M (frameCount P (l .bufs)) (entryCount (l .bufs)) C (image P S C L M k (s .block) (l .mem)) o bs (view P C v (l .bufs)) (view-room v (l .bufs) e))
+    write-same o bs (update v) e = put-same v (l .bufs) e _ _ (omega (arith, held-dirty v (l .bufs) e)) (write-room P M (frameCount P (l .bufs)) (entryCount (l .bufs)) C (image P S C L M k (s .block) (l .mem)) o bs (view P C v (l .bufs)) (view-room v (l .bufs) e))
 
     truncate-same : (n : ℕ) (t : Mode) → buffersShort P S C L t (l .bufs) ≡ false
-        → Q l (change P S C L M k s l (tryTruncate P M (frameCount P (l .bufs)) (entryCount (l .bufs)) (image P S C L M k (s .block) (l .mem)) n) t)
+        → Q l (change P S C L M k s l (tryTruncate P M (frameCount P (l .bufs)) (entryCount (l .bufs)) (image P S C L M k (s .block) (l .mem)) n)
+        (truncateReach P M (frameCount P (l .bufs)) (entryCount (l .bufs)) (image P S C L M k (s .block) (l .mem)) n) t)
     truncate-same n idle e = direct-same s l (tryTruncate P M (frameCount P (l .bufs)) (entryCount (l .bufs)) (image P S C L M k (s .block) (l .mem)) n (fresh P (s .block .«db_size») (budgetOf false 0 0)))
-    truncate-same n (update v) e = put-same v (l .bufs) e _ (truncate-room P M (frameCount P (l .bufs)) (entryCount (l .bufs)) C (image P S C L M k (s .block) (l .mem)) n (view P C v (l .bufs)) (view-room v (l .bufs) e))
+    truncate-same n (update v) e = put-same v (l .bufs) e _ _ (omega (arith, held-dirty v (l .bufs) e, try-grow P M (frameCount P (l .bufs)) (entryCount (l .bufs)) C (image P S C L M k (s .block) (l .mem)) n (view P C v (l .bufs)) (view-room v (l .bufs) e) .dirty)) (truncate-room P M (frameCount P (l .bufs)) (entryCount (l .bufs)) C (image P S C L M k (s .block) (l .mem)) n (view P C v (l .bufs)) (view-room v (l .bufs) e))
 
     end-same : (t : Mode) → Q l (doCommit P S C L M k s l t)
     end-same idle = same (l .bufs)

@@ -20,7 +20,7 @@ use Rattle.overlay.specs.declared.Budget.{Budget}
 use Rattle.overlay.specs.Lists.{tabulate, null}
 use Rattle.overlay.specs.Pages.{Page, pageNumbers}
 use Rattle.overlay.specs.Image.{imageByte}
-use Rattle.overlay.specs.Update.{Over, fresh, readOver, readBytes, Tried, accepted, refused, left, tryWrite, tryTruncate}
+use Rattle.overlay.specs.Update.{Over, fresh, readOver, readBytes, Tried, accepted, refused, left, tryWrite, tryTruncate, truncateReach}
 use Rattle.overlay.specs.Buffers.{Buffers, frameCount, entryCount, wiped, view, overlayOf, putBack, dirtyPage}
 use Rattle.blob.specs.declared.State.{State}
 use Rattle.blob.specs.declared.Answer.{Answer}
@@ -117,8 +117,10 @@ module _ (P S C L M : ℕ) (k : Codec) where
   answerOf (accepted w) = Done
   answerOf (refused r w) = Refused r
 
-  abbrev pub inUpdate : State → Lent → Overlay → Tried → Out
-  inUpdate s l v t = out (working (s .count .0) (s .block) (overlayOf P C (v .«base_size») (left t))) (withBuffers (putBack P C v (left t) (l .bufs)) l) (answerOf t) []
+  -- reach: the frames that the call had in use at most, where it left some of them again
+  abbrev pub inUpdate : State → Lent → Overlay → ℕ → Tried → Out
+  inUpdate s l v reach t =
+      out (working (s .count .0) (s .block) (overlayOf P C (v .«base_size») (left t))) (withBuffers (putBack P C v (max (v .dirty) reach) (left t) (l .bufs)) l) (answerOf t) []
 
   -- 01: "A direct call, accepted, is a begin, itself and a commit"; "A direct call refused by any but 35 leaves memory unchanged and zeros there too."
   abbrev pub direct : State → Lent → Tried → Out
@@ -126,9 +128,9 @@ module _ (P S C L M : ℕ) (k : Codec) where
   direct s l (refused r w) = over s l (Refused r)
 
   -- 01: a direct call "has no budget"
-  abbrev pub change : State → Lent → (Over → Tried) → Mode → Out
-  change s l f idle = direct s l (f (fresh P (s .block .«db_size») (budgetOf false 0 0)))
-  change s l f (update v) = inUpdate s l v (f (view P C v (l .bufs)))
+  abbrev pub change : State → Lent → (Over → Tried) → (Over → ℕ) → Mode → Out
+  change s l f reach idle = direct s l (f (fresh P (s .block .«db_size») (budgetOf false 0 0)))
+  change s l f reach (update v) = inUpdate s l v (reach (view P C v (l .bufs))) (f (view P C v (l .bufs)))
 
   -- ## Begin, read, commit, rollback, size
 
@@ -147,7 +149,7 @@ module _ (P S C L M : ℕ) (k : Codec) where
   doRead s l o n (update v) =
       let b : ℕ → ℕ = image (s .block) (l .mem) in
       let w : Over = readOver P C b o n (view P C v (l .bufs)) in
-      out (working (s .count .0) (s .block) (overlayOf P C (v .«base_size») w)) (withBuffers (putBack P C v w (l .bufs)) l)
+      out (working (s .count .0) (s .block) (overlayOf P C (v .«base_size») w)) (withBuffers (putBack P C v (v .dirty) w (l .bufs)) l)
       (Read (full (v .size) o n)) (readBytes P C b o n (view P C v (l .bufs)))
 
   -- 01: an unchanged update "commits as accepted and stores no byte; so does a commit or rollback with no update open"
@@ -257,8 +259,9 @@ module _ (P S C L M : ℕ) (k : Codec) where
   abbrev pub act : State → Lent → Call → Out
   act s l (begin g p b) = doBegin s l (budgetOf g p b) (importing (s .block)) (modeOf s)
   act s l (read o d) = doRead s l o (length d) (modeOf s)
-  act s l (write o bs) = change s l (tryWrite P M (frameCount P (l .bufs)) (entryCount (l .bufs)) (image (s .block) (l .mem)) o bs) (modeOf s)
-  act s l (truncate n) = change s l (tryTruncate P M (frameCount P (l .bufs)) (entryCount (l .bufs)) (image (s .block) (l .mem)) n) (modeOf s)
+  act s l (write o bs) = change s l (tryWrite P M (frameCount P (l .bufs)) (entryCount (l .bufs)) (image (s .block) (l .mem)) o bs) (λ u. 0) (modeOf s)
+  act s l (truncate n) = change s l (tryTruncate P M (frameCount P (l .bufs)) (entryCount (l .bufs)) (image (s .block) (l .mem)) n)
+      (truncateReach P M (frameCount P (l .bufs)) (entryCount (l .bufs)) (image (s .block) (l .mem)) n) (modeOf s)
   act s l commit = doCommit s l (modeOf s)
   act s l rollback = doRollback s l (modeOf s)
   act s l fileSize = out s l (Size (sizeNow s (modeOf s))) []

@@ -142,9 +142,9 @@ module _ (P S C L M : ℕ) (k : Codec) where
   direct-long s l (accepted w) = commit-long false s l (s .block .«db_size») w
   direct-long s l (refused r w) = refl
 
-  change-long : (s : State) (l : Lent) (f : Over → Tried) (t : Mode) → Long l (change P S C L M k s l f t)
-  change-long s l f idle = direct-long s l (f (fresh P (s .block .«db_size») (budgetOf false 0 0)))
-  change-long s l f (update v) = refl
+  change-long : (s : State) (l : Lent) (f : Over → Tried) (g : Over → ℕ) (t : Mode) → Long l (change P S C L M k s l f g t)
+  change-long s l f g idle = direct-long s l (f (fresh P (s .block .«db_size») (budgetOf false 0 0)))
+  change-long s l f g (update v) = refl
 
   restore-long : (s : State) (l : Lent) (b : Superblock) (a : Answer) → Long l (restore P S C L M k s l b a)
   unfolding restore
@@ -220,8 +220,8 @@ module _ (P S C L M : ℕ) (k : Codec) where
   unfolding doExport doChecksum
   act-long s l (begin g p b) = begun-long s l g p b (importing (s .block)) (modeOf s)
   act-long s l (read o d) = read-long s l o (length d) (modeOf s)
-  act-long s l (write o bs) = change-long s l (tryWrite P M (frameCount P (l .bufs)) (entryCount (l .bufs)) (image P S C L M k (s .block) (l .mem)) o bs) (modeOf s)
-  act-long s l (truncate n) = change-long s l (tryTruncate P M (frameCount P (l .bufs)) (entryCount (l .bufs)) (image P S C L M k (s .block) (l .mem)) n) (modeOf s)
+  act-long s l (write o bs) = change-long s l (tryWrite P M (frameCount P (l .bufs)) (entryCount (l .bufs)) (image P S C L M k (s .block) (l .mem)) o bs) _ (modeOf s)
+  act-long s l (truncate n) = change-long s l (tryTruncate P M (frameCount P (l .bufs)) (entryCount (l .bufs)) (image P S C L M k (s .block) (l .mem)) n) _ (modeOf s)
   act-long s l commit = end-long s l (modeOf s)
   act-long s l rollback = back-long s l (modeOf s)
   act-long s l fileSize = refl

@@ -49,13 +49,13 @@ module _ (P C : ℕ) where
       let e : min (length (w .cache)) C ≡ length (w .cache) = omega arith in
       rw e (take-resize (length (w .cache)) C (pageNumbers (w .cache)) (numbers-length (w .cache)) h)
 
-  pub view-put : (begun : ℕ) (v : Overlay) (w : Over) (l : Buffers) → Sized P (w .dirty) → Sized P (w .cache) → length (w .cache) ≤ C
-      → view P C (overlayOf P C begun w) (putBack P C v w l) ≡ w
+  pub view-put : (begun : ℕ) (v : Overlay) (k : ℕ) (w : Over) (l : Buffers) → Sized P (w .dirty) → Sized P (w .cache) → length (w .cache) ≤ C
+      → view P C (overlayOf P C begun w) (putBack P C v k w l) ≡ w
   unfolding view overlayOf putBack refill runsIn cached
-  view-put begun v w l s c few =
-      let n : resize (length (w .dirty)) (refill (v .dirty) (pageNumbers (w .dirty)) (l .numbers)) ≡ pageNumbers (w .dirty) =
-      subst (λ (j : ℕ). resize j (refill (v .dirty) (pageNumbers (w .dirty)) (l .numbers)) ≡ pageNumbers (w .dirty)) (numbers-length (w .dirty)) (resize-seam (pageNumbers (w .dirty)) _) in
-      let d : pagesIn P (resize (length (w .dirty)) (refill (v .dirty) (pageNumbers (w .dirty)) (l .numbers))) (refill (v .dirty * P) (flat (w .dirty)) (l .frames)) ≡ w .dirty =
+  view-put begun v j w l s c few =
+      let n : resize (length (w .dirty)) (refill j (pageNumbers (w .dirty)) (l .numbers)) ≡ pageNumbers (w .dirty) =
+      subst (λ (x : ℕ). resize x (refill j (pageNumbers (w .dirty)) (l .numbers)) ≡ pageNumbers (w .dirty)) (numbers-length (w .dirty)) (resize-seam (pageNumbers (w .dirty)) _) in
+      let d : pagesIn P (resize (length (w .dirty)) (refill j (pageNumbers (w .dirty)) (l .numbers))) (refill (j * P) (flat (w .dirty)) (l .frames)) ≡ w .dirty =
       rw n (pagesIn-flat P (w .dirty) _ s) in
       let e : min (length (w .cache)) C ≡ length (w .cache) = omega arith in
       let q : take (min (length (w .cache)) C) (resize C (pageNumbers (w .cache))) ≡ pageNumbers (w .cache) =
@@ -104,11 +104,11 @@ module _ (P C : ℕ) where
   -- ## What is given back
 
   -- an update that the lent slices have room for
-  pub record Roomy (v : Overlay) (w : Over) (l : Buffers) : Type 0 where
+  pub record Roomy (v : Overlay) (n : ℕ) (w : Over) (l : Buffers) : Type 0 where
     pub sized : Sized P (w .dirty)
     pub clean : Sized P (w .cache)
-    pub was : v .dirty * P ≤ length (l .frames)
-    pub was-numbers : v .dirty ≤ length (l .numbers)
+    pub was : n * P ≤ length (l .frames)
+    pub was-numbers : n ≤ length (l .numbers)
     pub was-recs : v .recorded * 2 ≤ length (l .recs)
     pub was-clean : length (cached P C (v .cache)) * P ≤ length (l .clean)
     pub frames : length (w .dirty) * P ≤ length (l .frames)
@@ -117,30 +117,30 @@ module _ (P C : ℕ) where
     pub cache : length (w .cache) * P ≤ length (l .clean)
 
   -- every slice keeps its length, freed places are zeros, and places never used stay
-  pub record GivenBack (v : Overlay) (w : Over) (l x : Buffers) : Type 0 where
+  pub record GivenBack (v : Overlay) (n : ℕ) (w : Over) (l x : Buffers) : Type 0 where
     pub frames : length (x .frames) ≡ length (l .frames)
     pub numbers : length (x .numbers) ≡ length (l .numbers)
     pub recs : length (x .recs) ≡ length (l .recs)
     pub clean : length (x .clean) ≡ length (l .clean)
-    pub freed : (i : ℕ) → length (w .dirty) * P ≤ i → i < v .dirty * P → getD (x .frames) i 0 ≡ 0
-    pub freed-numbers : (i : ℕ) → length (w .dirty) ≤ i → i < v .dirty → getD (x .numbers) i 0 ≡ 0
+    pub freed : (i : ℕ) → length (w .dirty) * P ≤ i → i < n * P → getD (x .frames) i 0 ≡ 0
+    pub freed-numbers : (i : ℕ) → length (w .dirty) ≤ i → i < n → getD (x .numbers) i 0 ≡ 0
     pub freed-clean : (i : ℕ) → length (w .cache) * P ≤ i → i < length (cached P C (v .cache)) * P → getD (x .clean) i 0 ≡ 0
-    pub unused : (i : ℕ) → length (w .dirty) * P ≤ i → v .dirty * P ≤ i → getD (x .frames) i 0 ≡ getD (l .frames) i 0
+    pub unused : (i : ℕ) → length (w .dirty) * P ≤ i → n * P ≤ i → getD (x .frames) i 0 ≡ getD (l .frames) i 0
 
-  pub given-back : (v : Overlay) (w : Over) (l : Buffers) → Roomy v w l → GivenBack v w l (putBack P C v w l)
+  pub given-back : (v : Overlay) (n : ℕ) (w : Over) (l : Buffers) → Roomy v n w l → GivenBack v n w l (putBack P C v n w l)
   unfolding putBack
-  given-back v w l r =
+  given-back v n w l r =
       let f : length (flat (w .dirty)) ≡ length (w .dirty) * P = flat-length P (w .dirty) (r .sized) in
       let c : length (flat (w .cache)) ≡ length (w .cache) * P = flat-length P (w .cache) (r .clean) in
       record {
-        frames = refill-keeps (v .dirty * P) (flat (w .dirty)) (l .frames) (r .was) (omega (arith, r .frames));
-        numbers = refill-keeps (v .dirty) (pageNumbers (w .dirty)) (l .numbers) (r .was-numbers) (omega (arith, numbers-length (w .dirty), r .numbers));
+        frames = refill-keeps (n * P) (flat (w .dirty)) (l .frames) (r .was) (omega (arith, r .frames));
+        numbers = refill-keeps n (pageNumbers (w .dirty)) (l .numbers) (r .was-numbers) (omega (arith, numbers-length (w .dirty), r .numbers));
         recs = refill-keeps (v .recorded * 2) (numbersOf (w .recorded)) (l .recs) (r .was-recs) (omega (arith, length-numbers (w .recorded), r .recs));
         clean = refill-keeps (length (cached P C (v .cache)) * P) (flat (w .cache)) (l .clean) (r .was-clean) (omega (arith, r .cache));
-        freed = λ i h k. refill-freed (v .dirty * P) (flat (w .dirty)) (l .frames) i (omega arith) k;
-        freed-numbers = λ i h k. refill-freed (v .dirty) (pageNumbers (w .dirty)) (l .numbers) i (omega (arith, numbers-length (w .dirty))) k;
+        freed = λ i h k. refill-freed (n * P) (flat (w .dirty)) (l .frames) i (omega arith) k;
+        freed-numbers = λ i h k. refill-freed n (pageNumbers (w .dirty)) (l .numbers) i (omega (arith, numbers-length (w .dirty))) k;
         freed-clean = λ i h k. refill-freed (length (cached P C (v .cache)) * P) (flat (w .cache)) (l .clean) i (omega arith) k;
-        unused = λ i h k. refill-past (v .dirty * P) (flat (w .dirty)) (l .frames) i (omega arith) k;
+        unused = λ i h k. refill-past (n * P) (flat (w .dirty)) (l .frames) i (omega arith) k;
       }
 
 -- after the end of an update: lengths stay, and all is zeros

@@ -71,11 +71,12 @@ module _ (P C : ℕ) where
     budget = w .budget;
   }
 
-  -- 01: "A frame or clean frame that is freed is used again: later pages move up, and the places left over become zeros."
-  unfoldable pub putBack : Overlay → Over → Buffers → Buffers
-  putBack v w l = record {
-    frames = refill (v .dirty * P) (flat (w .dirty)) (l .frames);
-    numbers = refill (v .dirty) (pageNumbers (w .dirty)) (l .numbers);
+  -- 01: "A frame or clean frame that is freed is used again: later pages move up, and the places left over become zeros." The overlay had v's numbers,
+  -- and n frames were in use before the call or during it
+  unfoldable pub putBack : Overlay → ℕ → Over → Buffers → Buffers
+  putBack v n w l = record {
+    frames = refill (n * P) (flat (w .dirty)) (l .frames);
+    numbers = refill n (pageNumbers (w .dirty)) (l .numbers);
     clean = refill (length (cached (v .cache)) * P) (flat (w .cache)) (l .clean);
     recs = refill (v .recorded * 2) (numbersOf (w .recorded)) (l .recs);
   }

@@ -126,7 +126,7 @@ module _ (P M F R C : ℕ) (b : ℕ → ℕ) where
     few = omega (arith, keep-few (count P n) (v .cache), w .few);
   }
 
-  try-grow : (n : ℕ) (v : Over) → W v → W (left (tryGrowTo P M F R b n v))
+  pub try-grow : (n : ℕ) (v : Over) → W v → W (left (tryGrowTo P M F R b n v))
   unfolding tryGrowTo tryGrow
   try-grow n v w = split (ltb (v .size) n)
       (λ t. split (ltb (count P (v .size)) (count P n) && leb R (length (v .recorded)))

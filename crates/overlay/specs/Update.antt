@@ -252,6 +252,10 @@ module _ (P M F R : ℕ) where
   unfoldable pub tryTruncate : (ℕ → ℕ) → ℕ → Over → Tried
   tryTruncate b n v = andThen (keepSize (v .size) (tryGrowTo b n v)) (λ w. andThen (tryChop n w) (tryTail b n))
 
+  -- a truncation loads pages first, then drops those past its end: the frames that it has in use in between
+  abbrev pub truncateReach : (ℕ → ℕ) → ℕ → Over → ℕ
+  truncateReach b n v = length (left (tryGrowTo b n v) .dirty)
+
   -- 01: "A write tests 20 for its end, 34, 20 for the old last page's end, then page by page 30 and 33 .. record, pages loaded and bytes copied stay"
   unfoldable pub tryWrite : (ℕ → ℕ) → ℕ → List ℕ → Over → Tried
   tryWrite b o bs v =

@@ -21,7 +21,7 @@ use Rattle.overlay.specs.Lists.{refill}
 use Rattle.overlay.specs.ListLaws.{clash, tests, take-alike, refill-length}
 use Rattle.overlay.specs.Pages.{pageNumbers, flat, addNumbers, addNumberIf, partial, span, grownNumbers}
 use Rattle.overlay.specs.PageLaws.{numbers-length, flat-length}
-use Rattle.overlay.specs.Update.{Over, pushRun, truncated, written, readOver, Tried, accepted, refused, left, tryWrite, tryTruncate}
+use Rattle.overlay.specs.Update.{Over, pushRun, truncated, written, readOver, Tried, accepted, refused, left, tryWrite, tryTruncate, truncateReach}
 use Rattle.overlay.specs.Buffers.{Buffers, frameCount, entryCount, wiped, cached, shortBuffers, view, overlayOf, putBack}
 use Rattle.overlay.specs.BufferLaws.{cached-put, view-put}
 use Rattle.overlay.specs.Changes.{Like, write-like, truncate-like, write-numbers, write-recorded, truncate-numbers, truncate-recorded}
@@ -171,10 +171,10 @@ module _ (P S C L M : ℕ) (k : Codec) (pos : 0 < P) (spos : 0 < S) (laws : Lawf
     abbrev img : ℕ → ℕ
     img = image P S C L M k h (l .mem)
 
-    put-inv : (u : Over) (e : Draft) → Weak P C M img u → (e .spoiled ≡ false → Draws P img (h .«db_size») u e)
-        → Inv P S C L M k (working c h (overlayOf P C (v .«base_size») u)) (drafting f e) m (withBuffers (putBack P C v u (l .bufs)) l)
+    put-inv : (n : ℕ) (u : Over) (e : Draft) → Weak P C M img u → (e .spoiled ≡ false → Draws P img (h .«db_size») u e)
+        → Inv P S C L M k (working c h (overlayOf P C (v .«base_size») u)) (drafting f e) m (withBuffers (putBack P C v n u (l .bufs)) l)
     unfolding putBack overlayOf
-    put-inv u e w y =
+    put-inv j u e w y =
         let q : cached P C (overlayOf P C (v .«base_size») u .cache) ≡ pageNumbers (u .cache) = cached-put P C (v .«base_size») u (w .few) in
         let n : length (cached P C (overlayOf P C (v .«base_size») u .cache)) ≡ length (u .cache) = ap length q ∙ numbers-length (u .cache) in (
           i .0,
@@ -182,22 +182,22 @@ module _ (P S C L M : ℕ) (k : Codec) (pos : 0 < P) (spos : 0 < S) (laws : Lawf
           record {
             began = i .2 .began;
             begun = i .2 .begun;
-            numbers = omega (arith, refill-length (v .dirty) (pageNumbers (u .dirty)) (l .bufs .numbers), numbers-length (u .dirty));
-            frames = omega (arith, refill-length (v .dirty * P) (flat (u .dirty)) (l .bufs .frames), flat-length P (u .dirty) (w .sized));
+            numbers = omega (arith, refill-length j (pageNumbers (u .dirty)) (l .bufs .numbers), numbers-length (u .dirty));
+            frames = omega (arith, refill-length (j * P) (flat (u .dirty)) (l .bufs .frames), flat-length P (u .dirty) (w .sized));
             recs = omega (arith, refill-length (v .recorded * 2) (runNumbers (u .recorded)) (l .bufs .recs), length-numbers (u .recorded));
             clean = rw n (omega (arith, refill-length (length (cached P C (v .cache)) * P) (flat (u .cache)) (l .bufs .clean), flat-length P (u .cache) (all-sized P img (u .cache) (w .cached))));
             few = rw n (w .few);
-            facts = subst (λ (x : Over). Facts P C M img (h .«db_size») x e) (sym (view-put P C (v .«base_size») v u (l .bufs) (w .sized) (all-sized P img (u .cache) (w .cached)) (w .few))) record { weak = w; draws = y };
+            facts = subst (λ (x : Over). Facts P C M img (h .«db_size») x e) (sym (view-put P C (v .«base_size») v j u (l .bufs) (w .sized) (all-sized P img (u .cache) (w .cached)) (w .few))) record { weak = w; draws = y };
           },
         )
 
     -- a change, accepted or refused
-    change-inv : (G : Draft → Draft) (n : ℕ) (now : List ℕ) (t : Tried) (x : Over) → Outcome (Weak P C M img) t x → (d .spoiled ≡ false → Draws P img (h .«db_size») x (G d)) → G d .spoiled ≡ d .spoiled
+    change-inv : (j : ℕ) (G : Draft → Draft) (n : ℕ) (now : List ℕ) (t : Tried) (x : Over) → Outcome (Weak P C M img) t x → (d .spoiled ≡ false → Draws P img (h .«db_size») x (G d)) → G d .spoiled ≡ d .spoiled
         → Inv P S C L M k (working c h (overlayOf P C (v .«base_size») (left t))) (changed P S L M k (eqb (number (answerOf P S C L M k t)) 0) G n (drafting f d))
-        (atBegin P S C L M k (drafting f d) (changed P S L M k (eqb (number (answerOf P S C L M k t)) 0) G n (drafting f d)) m now) (withBuffers (putBack P C v (left t) (l .bufs)) l)
+        (atBegin P S C L M k (drafting f d) (changed P S L M k (eqb (number (answerOf P S C L M k t)) 0) G n (drafting f d)) m now) (withBuffers (putBack P C v j (left t) (l .bufs)) l)
     unfolding spoil
-    change-inv G n now (accepted u) x a y e = put-inv u (G d) (a .1) (λ z. subst (λ (q : Over). Draws P img (h .«db_size») q (G d)) (sym (a .0)) (y (sym e ∙ z)))
-    change-inv G n now (refused r u) x a y e = rw (ne-eqb (numbersOf r .number) 0 (a .0 .0)) (put-inv u (spoil d) (a .1) (λ z. clash refl z))
+    change-inv j G n now (accepted u) x a y e = put-inv j u (G d) (a .1) (λ z. subst (λ (q : Over). Draws P img (h .«db_size») q (G d)) (sym (a .0)) (y (sym e ∙ z)))
+    change-inv j G n now (refused r u) x a y e = rw (ne-eqb (numbersOf r .number) 0 (a .0 .0)) (put-inv j u (spoil d) (a .1) (λ z. clash refl z))
 
   -- ## The turns of an update
 
@@ -262,7 +262,7 @@ module _ (P S C L M : ℕ) (k : Codec) (pos : 0 < P) (spos : 0 < S) (laws : Lawf
             full = ap (λ (q : ℕ). Read (eqb n 0 || leb (o + n) q)) (view-size (l .bufs) ∙ y .like .size-is);
             shown = read-bytes P C M pos b (h .«db_size») u (d .bytes) o n a (y .like);
           });
-          inv = inv-done (act P S C L M k s l (read o dst)) (drafting f d) m w (put-inv c h v f d m l j x d (q .weak) (λ z. let y : Draws P b (h .«db_size») u d = j .2 .facts .draws z in record {
+          inv = inv-done (act P S C L M k s l (read o dst)) (drafting f d) m w (put-inv c h v f d m l j (v .dirty) x d (q .weak) (λ z. let y : Draws P b (h .«db_size») u d = j .2 .facts .draws z in record {
             like = seen-like P C M pos b (h .«db_size») (length (d .bytes)) u x (d .bytes) a q (y .like);
             numbers-is = ap pageNumbers (q .dirty) ∙ y .numbers-is;
             recorded-is = q .recorded ∙ y .recorded-is;
@@ -277,12 +277,12 @@ module _ (P S C L M : ℕ) (k : Codec) (pos : 0 < P) (spos : 0 < S) (laws : Lawf
         let F : ℕ = frameCount P (l .bufs) in
         let R : ℕ = entryCount (l .bufs) in
         let tr : Tried = tryWrite P M F R b o bs u in
-        let y : Out = inUpdate P S C L M k s l v tr in
+        let y : Out = inUpdate P S C L M k s l v 0 tr in
         let p : Plain = changed P S L M k (eqb (number (answerOf P S C L M k tr)) 0) (draftWrite P o bs) (length (l .mem)) (drafting f d) in
         let now : List ℕ = take (c * S) (leaves P S C L M k (cleared (y .lent)) w .mem) in
         record {
           owed = tt;
-          inv = inv-swept y p (atBegin P S C L M k (drafting f d) p m now) w (change-inv c h v f d m l j (draftWrite P o bs) (length (l .mem)) now tr (written P b o bs u)
+          inv = inv-swept y p (atBegin P S C L M k (drafting f d) p m now) w (change-inv c h v f d m l j (max (v .dirty) 0) (draftWrite P o bs) (length (l .mem)) now tr (written P b o bs u)
               (write-out P C M pos b F R o bs u (j .2 .facts .weak))
               (λ z. draws-write P pos b (h .«db_size») u d (j .2 .facts .draws z) o bs)
               (write-spoiled P o bs d));
@@ -296,12 +296,13 @@ module _ (P S C L M : ℕ) (k : Codec) (pos : 0 < P) (spos : 0 < S) (laws : Lawf
         let F : ℕ = frameCount P (l .bufs) in
         let R : ℕ = entryCount (l .bufs) in
         let tr : Tried = tryTruncate P M F R b n u in
-        let y : Out = inUpdate P S C L M k s l v tr in
+        let reach : ℕ = truncateReach P M F R b n u in
+        let y : Out = inUpdate P S C L M k s l v reach tr in
         let p : Plain = changed P S L M k (eqb (number (answerOf P S C L M k tr)) 0) (draftTruncate P n) (length (l .mem)) (drafting f d) in
         let now : List ℕ = take (c * S) (leaves P S C L M k (cleared (y .lent)) w .mem) in
         record {
           owed = tt;
-          inv = inv-swept y p (atBegin P S C L M k (drafting f d) p m now) w (change-inv c h v f d m l j (draftTruncate P n) (length (l .mem)) now tr (truncated P b n u)
+          inv = inv-swept y p (atBegin P S C L M k (drafting f d) p m now) w (change-inv c h v f d m l j (max (v .dirty) reach) (draftTruncate P n) (length (l .mem)) now tr (truncated P b n u)
               (truncate-out P C M pos b F R n u word (j .2 .facts .weak))
               (λ z. draws-truncate P pos b (h .«db_size») u d (j .2 .facts .draws z) n)
               (truncate-spoiled P n d));

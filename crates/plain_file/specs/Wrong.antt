@@ -211,7 +211,7 @@ oneTouch o bs l s idle x = x
 oneTouch o bs l s (update v) x =
     let b : ℕ → ℕ = image 2 24 1 3 1000 smallCodec (s .block) (l .mem) in
     let u : Over = touch 2 b true (copy 2 o bs) (o / 2) (growTo 2 b (o + length bs) (view 2 1 v (l .bufs))) in
-    inUpdate 2 24 1 3 1000 smallCodec s l v (accepted u)
+    inUpdate 2 24 1 3 1000 smallCodec s l v 0 (accepted u)
 
 abbrev pub oneOnly : Kind → State → Lent → Out → Out
 oneOnly (reading o n) s l x = x
@@ -353,7 +353,7 @@ unpatched n l s (update v) x =
     let b : ℕ → ℕ = image 2 24 1 3 1000 smallCodec (s .block) (l .mem) in
     let u : Over = view 2 1 v (l .bufs) in
     let g : Over = tail 2 b n (chop 2 n (finish 2 b (u .size) n (stretch 2 n u))) in
-    let y : Out = inUpdate 2 24 1 3 1000 smallCodec s l v (accepted g) in
+    let y : Out = inUpdate 2 24 1 3 1000 smallCodec s l v 0 (accepted g) in
     cond (ltb (v .size) n) y x
 
 abbrev pub grows : Kind → State → Lent → Out → Out
