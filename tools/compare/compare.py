@@ -19,7 +19,7 @@ ROOT = pathlib.Path(__file__).resolve().parents[2]
 DEPS = "config memory meta runs extents overlay blob"
 BATCH = 25
 KEPT_SEED = 1
-KEPT_SCENES = ("unmerged_record", "far_dirty", "left_in_old_page", "left_in_new_page", "cached_then_written")
+KEPT_SCENES = ("unmerged_record", "far_dirty", "left_in_old_page", "left_in_new_page", "cached_then_written", "moved_up")
 
 
 def copy_repository(to):
@@ -73,14 +73,6 @@ def table(entries):
     return "\n".join(lines)
 
 
-def known(entry):
-    """Differences that are reported and wait for the definitions: such a call is not compared."""
-    if entry["kind"] != "call" or not entry["state"].updating:
-        return False
-    before, after, most = entry["state"].overlay.dirty, entry["out"].state.overlay.dirty, entry.get("most", 0)
-    return entry["call"][0] == "truncate" and most > max(before, after)
-
-
 def told(entries, n):
     """The list up to call n, from its opening."""
     first = max(i for i in range(n) if entries[i]["kind"] == "open")
@@ -107,7 +99,7 @@ def group_of(entry):
 
 def kept():
     """The calls that stay in the repository: some scenes whole, and the shortest call of each kind and ending."""
-    pool = [e for which in "abcr" for e in Lists(KEPT_SEED, which).run(900) if not known(e)]
+    pool = [e for which in "abcr" for e in Lists(KEPT_SEED, which).run(900)]
     calls = [e for e in pool if e["tag"] in KEPT_SCENES and (e["par"], e["codec"].name) == (SETS["b"][0], "smallCodec")]
     shortest = {}
     for e in sorted(pool, key=lambda e: len(theorems.statement(e))):
@@ -129,9 +121,7 @@ def keep():
 
 
 def main(seed, calls, sets):
-    everything = made(seed, calls, sets)
-    entries = [e for e in everything if os.environ.get("COMPARE_ALL") or not known(e)]
-    print(f"left out as known: {len(everything) - len(entries)}")
+    entries = made(seed, calls, sets)
     with tempfile.TemporaryDirectory() as name:
         folder = pathlib.Path(os.environ.get("COMPARE_FOLDER", name))
         if not (folder / "crates.txt").exists():

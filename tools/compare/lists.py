@@ -314,7 +314,7 @@ class Lists:
 
     def make(self, call, lent):
         out = self.store.call(self.state, lent, call)
-        self.note(kind="call", state=self.state, lent=lent, call=call, out=out, most=self.store.most)
+        self.note(kind="call", state=self.state, lent=lent, call=call, out=out)
         self.state, self.last_refused = out.state, out.answer[0] == "Refused" and out.answer[1] in (30, 33)
         if out.answer != ("Refused", 35):
             self.lent = out.lent

@@ -223,7 +223,6 @@ class Pool:
 
     def __init__(self, size, cells, numbers, used):
         self.size, self.cells, self.numbers, self.used = size, cells, numbers, used
-        self.most = used
 
     def find(self, page):
         live = self.numbers[:self.used]
@@ -240,7 +239,6 @@ class Pool:
         self.numbers[self.used] = page
         self.put(self.used, 0, values)
         self.used += 1
-        self.most = max(self.most, self.used)
         return self.used - 1
 
     def keep(self, wanted):
@@ -390,12 +388,12 @@ LENT = {
 
 class Store:
     def __init__(self, par, codec):
-        self.par, self.codec, self.most = par, codec, 0
+        self.par, self.codec = par, codec
 
     # what every call does
 
     def call(self, state, lent, call):
-        kind, args, self.most = call[0], call[1:], 0
+        kind, args = call[0], call[1:]
         lends = args[1] if kind in ("read", "export") else []
         if self.short(state, lent, kind):
             return Out(state, lent, ("Refused", 35), list(lends))
@@ -496,7 +494,7 @@ class Store:
             act(u)
         except Refuse as r:
             answer = ("Refused", r.number, *r.values)
-        s.overlay, self.most = u.numbers(), u.dirty.most
+        s.overlay = u.numbers()
         return Out(s, l, answer)
 
     def direct(self, s, l, act):
