@@ -79,5 +79,16 @@ def past_all_numbers(p):
     return dict(size=1, runs=[], frames=1, calls=calls)
 
 
+def growth_first(p):
+    """The whole growth is added before the record's parts of it."""
+    runs = [(8, 9), (20, 21), (30, 31), (40, 41), (50, 51), (60, 61)][:p.L]
+    return dict(size=5 * p.P, runs=runs, frames=1, calls=[("begin", False, 0, 0), ("truncate", 6 * p.P), ("truncate", 8 * p.P), ("commit",)])
+
+
+def cut_first(p):
+    runs = [(4, 5), (20, 21), (30, 31), (40, 41), (50, 51), (60, 61)][:p.L]
+    return dict(size=8 * p.P, runs=runs, frames=1, calls=[("begin", False, 0, 0), ("truncate", 7 * p.P), ("truncate", 5 * p.P), ("commit",)])
+
+
 SCENES = [unmerged_record, far_dirty, left_in_old_page, left_in_new_page, all_pages, cached_then_written, at_the_end_of_numbers, both_open,
-          import_over_refresh, moved_up, past_all_numbers]
+          import_over_refresh, moved_up, past_all_numbers, growth_first, cut_first]
