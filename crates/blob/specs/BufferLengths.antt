@@ -1,4 +1,4 @@
--- Every lent slice of an update keeps its length, for any state, any bytes and any call.
+-- Every lent slice of an update keeps its length, for any state, any bytes and any call; and what a truncation leaves in frames that it took and gave up.
 use mathlib.Core.Path.{_≡_, refl, sym, ap, _∙_, subst}
 use Prim.Native.Nat.{ℕ, zero, suc, _+_, _-_, _*_, _/_, _≤_, _<_, max, min}
 use native.Mathlib.Nat.{le-div-iff-mul-le, mul-le-mul-right, le-trans}
@@ -6,7 +6,7 @@ use native.Mathlib.Omega.{arith}
 use mathlib.Core.Bool.{Bool, true, false, not, cond, _&&_, _||_}
 use mathlib.Core.List.{List, [], _∷_, _++_}
 use lib.Dec.{ltb, leb, eqb}
-use lib.ListN.{length, take, drop, length-take}
+use lib.ListN.{length, take, drop, getD, length-take}
 use borrow.Author.Tests.{ltb-false}
 use Rattle.config.specs.Pages.{count}
 use Rattle.memory.specs.Bytes.{zeros, resize}
@@ -106,21 +106,24 @@ module _ (P S C L M : ℕ) (k : Codec) (pos : 0 < P) where
     fits n h = let d : n ≤ length (l .frames) / P = omega arith in (le-div-iff-mul-le {x = n} pos .0 d, omega arith)
 
     -- and so does what is put back
-    put-same : (n : ℕ) (w : Over) → n ≤ frameCount P l → Room P (frameCount P l) (entryCount l) C w → SameLengths l (putBack P C v n w l)
+    put-given : (n : ℕ) (w : Over) → n ≤ frameCount P l → Room P (frameCount P l) (entryCount l) C w → GivenBack P C v n w l (putBack P C v n w l)
     unfolding entryCount
+    put-given n w h r = given-back P C v n w l record {
+      sized = r .sized;
+      clean = r .clean;
+      was = fits n h .0;
+      was-numbers = fits n h .1;
+      was-recs = held-recs;
+      was-clean = le-trans (mul-le-mul-right P few-cached) held-clean;
+      frames = fits (length (w .dirty)) (r .dirty) .0;
+      numbers = fits (length (w .dirty)) (r .dirty) .1;
+      recs = omega (arith, r .recs);
+      cache = le-trans (mul-le-mul-right P (r .few)) held-clean;
+    }
+
+    put-same : (n : ℕ) (w : Over) → n ≤ frameCount P l → Room P (frameCount P l) (entryCount l) C w → SameLengths l (putBack P C v n w l)
     put-same n w h r =
-        let g : GivenBack P C v n w l (putBack P C v n w l) = given-back P C v n w l (record {
-          sized = r .sized;
-          clean = r .clean;
-          was = fits n h .0;
-          was-numbers = fits n h .1;
-          was-recs = held-recs;
-          was-clean = le-trans (mul-le-mul-right P few-cached) held-clean;
-          frames = fits (length (w .dirty)) (r .dirty) .0;
-          numbers = fits (length (w .dirty)) (r .dirty) .1;
-          recs = omega (arith, r .recs);
-          cache = le-trans (mul-le-mul-right P (r .few)) held-clean;
-        }) in
+        let g : GivenBack P C v n w l (putBack P C v n w l) = put-given n w h r in
         record { frames = g .frames; numbers = g .numbers; clean = g .clean; recs = g .recs }
 
   abbrev Q : Lent → Out → Type 0
@@ -215,11 +218,31 @@ module _ (P S C L M : ℕ) (k : Codec) (pos : 0 < P) where
     write-same o bs idle e = direct-same s l (tryWrite P M (frameCount P (l .bufs)) (entryCount (l .bufs)) (image P S C L M k (s .block) (l .mem)) o bs (fresh P (s .block .«db_size») (budgetOf false 0 0)))
     write-same o bs (update v) e = put-same v (l .bufs) e _ _ (omega (arith, held-dirty v (l .bufs) e)) (write-room P M (frameCount P (l .bufs)) (entryCount (l .bufs)) C (image P S C L M k (s .block) (l .mem)) o bs (view P C v (l .bufs)) (view-room v (l .bufs) e))
 
-    truncate-same : (n : ℕ) (t : Mode) → buffersShort P S C L t (l .bufs) ≡ false
-        → Q l (change P S C L M k s l (tryTruncate P M (frameCount P (l .bufs)) (entryCount (l .bufs)) (image P S C L M k (s .block) (l .mem)) n)
-        (truncateReach P M (frameCount P (l .bufs)) (entryCount (l .bufs)) (image P S C L M k (s .block) (l .mem)) n) t)
-    truncate-same n idle e = direct-same s l (tryTruncate P M (frameCount P (l .bufs)) (entryCount (l .bufs)) (image P S C L M k (s .block) (l .mem)) n (fresh P (s .block .«db_size») (budgetOf false 0 0)))
-    truncate-same n (update v) e = put-same v (l .bufs) e _ _ (omega (arith, held-dirty v (l .bufs) e, try-grow P M (frameCount P (l .bufs)) (entryCount (l .bufs)) C (image P S C L M k (s .block) (l .mem)) n (view P C v (l .bufs)) (view-room v (l .bufs) e) .dirty)) (truncate-room P M (frameCount P (l .bufs)) (entryCount (l .bufs)) C (image P S C L M k (s .block) (l .mem)) n (view P C v (l .bufs)) (view-room v (l .bufs) e))
+    abbrev cut : ℕ → Over → Tried
+    cut n = tryTruncate P M (frameCount P (l .bufs)) (entryCount (l .bufs)) (image P S C L M k (s .block) (l .mem)) n
+
+    abbrev reach : ℕ → Over → ℕ
+    reach n = truncateReach P M (frameCount P (l .bufs)) (entryCount (l .bufs)) (image P S C L M k (s .block) (l .mem)) n
+
+    reach-lent : (n : ℕ) (v : Overlay) → shortBuffers P C v (l .bufs) ≡ false → max (v .dirty) (reach n (view P C v (l .bufs))) ≤ frameCount P (l .bufs)
+    reach-lent n v e =
+        omega (arith, held-dirty v (l .bufs) e, try-grow P M (frameCount P (l .bufs)) (entryCount (l .bufs)) C (image P S C L M k (s .block) (l .mem)) n (view P C v (l .bufs)) (view-room v (l .bufs) e) .dirty)
+
+    cut-room : (n : ℕ) (v : Overlay) → shortBuffers P C v (l .bufs) ≡ false → Room P (frameCount P (l .bufs)) (entryCount (l .bufs)) C (left (cut n (view P C v (l .bufs))))
+    cut-room n v e = truncate-room P M (frameCount P (l .bufs)) (entryCount (l .bufs)) C (image P S C L M k (s .block) (l .mem)) n (view P C v (l .bufs)) (view-room v (l .bufs) e)
+
+    truncate-same : (n : ℕ) (t : Mode) → buffersShort P S C L t (l .bufs) ≡ false → Q l (change P S C L M k s l (cut n) (reach n) t)
+    truncate-same n idle e = direct-same s l (cut n (fresh P (s .block .«db_size») (budgetOf false 0 0)))
+    truncate-same n (update v) e = put-same v (l .bufs) e _ _ (reach-lent n v e) (cut-room n v e)
+
+    -- a frame that a truncation takes and leaves again is zeros
+    pub truncate-freed : (n : ℕ) (v : Overlay) → shortBuffers P C v (l .bufs) ≡ false
+        → (i : ℕ) → length (left (cut n (view P C v (l .bufs))) .dirty) * P ≤ i → i < reach n (view P C v (l .bufs)) * P
+        → getD (change P S C L M k s l (cut n) (reach n) (update v) .lent .bufs .frames) i 0 ≡ 0
+    truncate-freed n v e i h j =
+        let m : ℕ = reach n (view P C v (l .bufs)) in
+        let up : m * P ≤ max (v .dirty) m * P = mul-le-mul-right P (omega arith) in
+        put-given v (l .bufs) e (max (v .dirty) m) _ (reach-lent n v e) (cut-room n v e) .freed i h (omega arith)
 
     end-same : (t : Mode) → Q l (doCommit P S C L M k s l t)
     end-same idle = same (l .bufs)
