@@ -115,7 +115,7 @@ def is_normalized(runs):
 
 
 class SmallCodec:
-    """The test codec of crates/blob/specs/Small.antt: one element of memory for each field and number, at most 3 runs."""
+    """The test codec of crates/store/specs/Small.antt: one element of memory for each field and number, at most 3 runs."""
     name, seed, head, page_field, most = "smallCodec", 1, 18, 2, 3
     magic = None
 

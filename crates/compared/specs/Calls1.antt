@@ -4,8 +4,8 @@ use Prim.Native.Nat.{ℕ}
 use mathlib.Core.Bool.{Bool, true, false}
 use mathlib.Core.List.{List, [], _∷_, _++_}
 use Rattle.config.specs.declared.refusal.Refusal.the-variants.{ForeignStableMemoryImage, UnsupportedLayoutVersion, MetaChecksumMismatch, ImageOutOfMemory, ImportAlreadyStarted, ImportNotStarted, UpdateInProgress, UpdateBegunTwice, OffsetOverflow, ImportOutOfOrder, ImportOutOfBounds, ImportIncomplete, ChecksumMismatch, ChecksumRefreshChunkEmpty, BudgetExceeded, ZeroExtentLimitExceeded, GrowFailed, FramesFull, RecordFull, BufferTooShort}
-use Rattle.blob.specs.declared.State.{State}
-use Rattle.blob.specs.declared.Answer.the-variants.{Done, Size, Read, Exported, Checksum, Refreshed, Refused}
+use Rattle.store.specs.declared.State.{State}
+use Rattle.store.specs.declared.Answer.the-variants.{Done, Size, Read, Exported, Checksum, Refreshed, Refused}
 use Rattle.compared.specs.Shapes.{budget, overlay, state, lent, refreshed, opened}
 use Rattle.config.specs.Pages.{count}
 use Rattle.memory.specs.Bytes.{zeros, overwrite, resize}
@@ -15,18 +15,18 @@ use Rattle.meta.specs.Block.{magic, ofFields}
 use Rattle.runs.specs.Sets.{within, merge, insert, add, around, piece, remove}
 use Rattle.runs.specs.Flat.{runsIn as flatRuns}
 use Rattle.extents.specs.Plan.{additions, addOne, remain, plan}
-use Rattle.overlay.specs.Lists.{put, refill, tabulate}
-use Rattle.overlay.specs.Pages.{addNumberIf, span, grownNumbers}
-use Rattle.overlay.specs.Image.{imageByte, imagePage}
-use Rattle.overlay.specs.Update.{pushRun, raw, overByte, budgetBytes, raised, touch, blank, copy, stretch, patch, finish, grow, growTo, chop, tail, truncated, wholePage, overWrite, written, fresh, lookUp, sized, passing, marked, tryTouch, tryPatch, tryFinish, tryGrow, tryGrowTo, tryTail, tryChop, tryTruncate, tryWrite}
-use Rattle.overlay.specs.Buffers.{frameCount, entryCount, wiped, cached, shortBuffers, view, overlayOf, putBack, dirtyPage}
-use Rattle.blob.specs.Codec.{stored}
-use Rattle.blob.specs.Small.{smallCodec, smallSum, smallDecode, smallRuns, smallLoad, smallFresh}
-use Rattle.blob.specs.Blocks.{importing, stale, refreshing, marks, afterCommit, afterImportBegin, afterImportChunk, afterImportCancel, afterImportFinish, afterRefresh, afterRefreshStep}
-use Rattle.blob.specs.Calls.{begin, read, write, truncate, commit, rollback, fileSize, importBegin, importChunk, importFinish, importCancel, export, checksum, refresh, refreshStep, Lent, Out, out, modeOf, short}
-use Rattle.blob.specs.Plan.{storePlan}
-use Rattle.blob.specs.Store.{dirtyIn, noOverlay, imageBytes, unchanged, plannedRuns, commitOver, restore, doImportBegin, doImportChunk, doImportFinish, doImportCancel, doExport, imageSum, doChecksum, doRefresh, refreshFrom, doRefreshStep, store}
-use Rattle.blob.specs.Opening.{Opened, outside, open′}
+use Rattle.update.specs.Lists.{put, refill, tabulate}
+use Rattle.update.specs.Pages.{addNumberIf, span, grownNumbers}
+use Rattle.update.specs.Image.{imageByte, imagePage}
+use Rattle.update.specs.Update.{pushRun, raw, overByte, budgetBytes, raised, touch, blank, copy, stretch, patch, finish, grow, growTo, chop, tail, truncated, wholePage, overWrite, written, fresh, lookUp, sized, passing, marked, tryTouch, tryPatch, tryFinish, tryGrow, tryGrowTo, tryTail, tryChop, tryTruncate, tryWrite}
+use Rattle.update.specs.Buffers.{frameCount, entryCount, wiped, cached, shortBuffers, view, overlayOf, putBack, dirtyPage}
+use Rattle.store.specs.Codec.{stored}
+use Rattle.store.specs.Small.{smallCodec, smallSum, smallDecode, smallRuns, smallLoad, smallFresh}
+use Rattle.store.specs.Blocks.{importing, stale, refreshing, marks, afterCommit, afterImportBegin, afterImportChunk, afterImportCancel, afterImportFinish, afterRefresh, afterRefreshStep}
+use Rattle.store.specs.Calls.{begin, read, write, truncate, commit, rollback, fileSize, importBegin, importChunk, importFinish, importCancel, export, checksum, refresh, refreshStep, Lent, Out, out, modeOf, short}
+use Rattle.store.specs.Plan.{storePlan}
+use Rattle.store.specs.Store.{dirtyIn, noOverlay, imageBytes, unchanged, plannedRuns, commitOver, restore, doImportBegin, doImportChunk, doImportFinish, doImportCancel, doExport, imageSum, doChecksum, doRefresh, refreshFrom, doRefreshStep, store}
+use Rattle.store.specs.Opening.{Opened, outside, open′}
 
 -- open: accepted (cached then written)
 -- begin: accepted (cached then written)

@@ -4,14 +4,14 @@ use mathlib.Core.Bool.{Bool, true, false}
 use mathlib.Core.List.{List, []}
 use Rattle.memory.specs.Growth.{stable}
 use Rattle.meta.specs.declared.superblock.Superblock.{Superblock}
-use Rattle.overlay.specs.declared.Overlay.{Overlay}
-use Rattle.overlay.specs.declared.Budget.{Budget}
-use Rattle.overlay.specs.Buffers.{Buffers}
-use Rattle.blob.specs.declared.State.{State}
-use Rattle.blob.specs.declared.Answer.{Answer}
-use Rattle.blob.specs.declared.Answer.the-variants.{Refreshed}
-use Rattle.blob.specs.Calls.{Lent}
-use Rattle.blob.specs.Opening.{Opened}
+use Rattle.update.specs.declared.Overlay.{Overlay}
+use Rattle.update.specs.declared.Budget.{Budget}
+use Rattle.update.specs.Buffers.{Buffers}
+use Rattle.store.specs.declared.State.{State}
+use Rattle.store.specs.declared.Answer.{Answer}
+use Rattle.store.specs.declared.Answer.the-variants.{Refreshed}
+use Rattle.store.specs.Calls.{Lent}
+use Rattle.store.specs.Opening.{Opened}
 
 abbrev pub budget : Bool → ℕ → ℕ → ℕ → ℕ → ℕ → Budget
 budget g p b x pp pb = record { limited = g; «max_pages» = p; «max_bytes» = b; passed = x; «peak_pages» = pp; «peak_bytes» = pb }

@@ -9,6 +9,9 @@ ghost use Rattle.config.specs.Pages.{count};
 
 pub const SQLITE_PAGE_SIZE: u64 = 16_384;
 
+// The same, as a length of a slice.
+pub const PAGE_LEN: usize = 16_384;
+
 pub const STABLE_PAGE_SIZE: u64 = 65_536;
 
 pub const SUPERBLOCK_OFFSET: u64 = 0;

@@ -24,24 +24,24 @@ use Rattle.runs.specs.Sets.{covers, within, merge, insert, add, around, piece, 
 use Rattle.runs.specs.Flat.{runsIn as flatRuns}
 use Rattle.runs.specs.Image.{imageCount, imageNumbers}
 use Rattle.extents.specs.Plan.{additions, tooMany, kept, Answer as Planned}
-use Rattle.overlay.specs.Lists.{put, refill, tabulate}
-use Rattle.overlay.specs.Pages.{Page, pageByte, addNumberIf, span, grownNumbers}
-use Rattle.overlay.specs.PageLaws.{EndsBy}
-use Rattle.overlay.specs.Image.{imageByte, imagePage}
-use Rattle.overlay.specs.Update.{Over, accepted, pushRun, raw, overByte, budgetBytes, raised, touch, blank, copy, stretch, patch, finish, grow, growTo, chop, tail, truncated, wholePage, overWrite, written, fresh, lookUp, Tried, left, sized, passing, marked, tryTouch, tryPatch, tryFinish, tryGrow, tryGrowTo, tryTail, tryChop, tryTruncate, tryWrite}
-use Rattle.overlay.specs.Buffers.{Buffers, frameCount, entryCount, wiped, cached, shortBuffers, view, overlayOf, putBack}
-use Rattle.blob.specs.declared.State.{State}
-use Rattle.blob.specs.declared.Answer.{Answer}
-use Rattle.blob.specs.declared.Answer.the-variants.{Done, Read, Refused}
-use Rattle.blob.specs.Codec.{Codec, stored, realCodec}
-use Rattle.blob.specs.Blocks.{importing, stale, refreshing, marks, afterCommit}
-use Rattle.blob.specs.Calls.{Call, begin, read, write, truncate, commit, Uses, uses, these, Lent, Out, out, number, short, withMem, Mode, idle, update, modeOf}
-use Rattle.blob.specs.Plan.{storePlan}
-use Rattle.blob.specs.Store.{resting, refuse, act, swept, direct, noOverlay, budgetOf, image, imageBytes, unchanged, plannedRuns, settle, commitOver, store, runsOf, sizeNow}
-use Rattle.blob.specs.Lawful.{Fits, Lawful}
-use Rattle.blob.specs.RealCodec.{real-lawful}
-use Rattle.blob.specs.MemoryLaws.{stored-length}
-use Rattle.blob.specs.Opening.{Opened, outside, open′}
+use Rattle.update.specs.Lists.{put, refill, tabulate}
+use Rattle.update.specs.Pages.{Page, pageByte, addNumberIf, span, grownNumbers}
+use Rattle.update.specs.PageLaws.{EndsBy}
+use Rattle.update.specs.Image.{imageByte, imagePage}
+use Rattle.update.specs.Update.{Over, accepted, pushRun, raw, overByte, budgetBytes, raised, touch, blank, copy, stretch, patch, finish, grow, growTo, chop, tail, truncated, wholePage, overWrite, written, fresh, lookUp, Tried, left, sized, passing, marked, tryTouch, tryPatch, tryFinish, tryGrow, tryGrowTo, tryTail, tryChop, tryTruncate, tryWrite}
+use Rattle.update.specs.Buffers.{Buffers, frameCount, entryCount, wiped, cached, shortBuffers, view, overlayOf, putBack}
+use Rattle.store.specs.declared.State.{State}
+use Rattle.store.specs.declared.Answer.{Answer}
+use Rattle.store.specs.declared.Answer.the-variants.{Done, Read, Refused}
+use Rattle.store.specs.Codec.{Codec, stored, realCodec}
+use Rattle.store.specs.Blocks.{importing, stale, refreshing, marks, afterCommit}
+use Rattle.store.specs.Calls.{Call, begin, read, write, truncate, commit, Uses, uses, these, Lent, Out, out, number, short, withMem, Mode, idle, update, modeOf}
+use Rattle.store.specs.Plan.{storePlan}
+use Rattle.store.specs.Store.{resting, refuse, act, swept, direct, noOverlay, budgetOf, image, imageBytes, unchanged, plannedRuns, settle, commitOver, store, runsOf, sizeNow}
+use Rattle.store.specs.Lawful.{Fits, Lawful}
+use Rattle.store.specs.RealCodec.{real-lawful}
+use Rattle.store.specs.MemoryLaws.{stored-length}
+use Rattle.store.specs.Opening.{Opened, outside, open′}
 
 -- the store at 01's sizes
 abbrev pub real : State → Lent → Call → Out

@@ -11,6 +11,7 @@ pub use numbers::fill_numbers;
 pub use part::copy;
 pub use part::fill;
 pub use part::fill_at;
+pub use part::least;
 pub use part::read;
 pub use part::write;
 ghost use mathlib.Core.Path.{_≡_};

@@ -4,7 +4,8 @@ ghost use Prim.Native.Nat.{min};
 ghost use lib.ListN.{length, drop};
 ghost use Rattle.memory.specs.Bytes.{zeros, overwrite, resize};
 
-fn least(a: usize, b: usize) -> usize
+// The smaller of two.
+pub fn least(a: usize, b: usize) -> usize
     ensures { λ r. ⌜ r ≡ min a b ⌝ }
 {
     if a < b { a } else { b }

@@ -8,14 +8,14 @@ use lib.ListN.{length, take, drop, getD}
 use Rattle.config.specs.declared.refusal.Refusal.the-variants.{BufferTooShort}
 use Rattle.memory.specs.Bytes.{resize}
 use Rattle.meta.specs.Words.{Bytes}
-use Rattle.overlay.specs.declared.Overlay.{Overlay}
-use Rattle.overlay.specs.Buffers.{Buffers, cached}
-use Rattle.blob.specs.declared.State.{State}
-use Rattle.blob.specs.declared.Answer.{Answer}
-use Rattle.blob.specs.declared.Answer.the-variants.{Size, Read, Refused}
-use Rattle.blob.specs.Codec.{Codec}
-use Rattle.blob.specs.Calls.{Call, begin, read, write, truncate, commit, rollback, fileSize, importBegin, importChunk, importFinish, importCancel, export, checksum, refresh, refreshStep, Lent, Out, number, lentBytes, Mode, idle, update, modeOf, short, withMem}
-use Rattle.blob.specs.Opening.{open′}
+use Rattle.update.specs.declared.Overlay.{Overlay}
+use Rattle.update.specs.Buffers.{Buffers, cached}
+use Rattle.store.specs.declared.State.{State}
+use Rattle.store.specs.declared.Answer.{Answer}
+use Rattle.store.specs.declared.Answer.the-variants.{Size, Read, Refused}
+use Rattle.store.specs.Codec.{Codec}
+use Rattle.store.specs.Calls.{Call, begin, read, write, truncate, commit, rollback, fileSize, importBegin, importChunk, importFinish, importCancel, export, checksum, refresh, refreshStep, Lent, Out, number, lentBytes, Mode, idle, update, modeOf, short, withMem}
+use Rattle.store.specs.Opening.{open′}
 use Rattle.plain_file.specs.Plain.{File, Draft, Plain, closed, drafting, Told, copied, draftWrite, draftTruncate, verdictNumber, fileGround, fileOf, plainStep}
 
 -- a store

@@ -8,15 +8,15 @@ use lib.ListN.{length, take}
 use Rattle.config.specs.declared.refusal.Refusal.the-variants.{BufferTooShort}
 use Rattle.memory.specs.Laws.{split}
 use Rattle.meta.specs.declared.superblock.Superblock.{Superblock}
-use Rattle.overlay.specs.declared.Overlay.{Overlay}
-use Rattle.blob.specs.declared.State.{State}
-use Rattle.blob.specs.Codec.{Codec, realCodec}
-use Rattle.blob.specs.Calls.{Call, Lent, Out, uses, Mode, modeIf, modeOf, short, withMem}
-use Rattle.blob.specs.Store.{refuse, act, swept, store}
-use Rattle.blob.specs.Opening.{open′}
-use Rattle.blob.specs.Lawful.{Lawful, Good}
-use Rattle.blob.specs.OpeningLaws.{Opens, opens}
-use Rattle.blob.specs.RealCodec.{real-lawful}
+use Rattle.update.specs.declared.Overlay.{Overlay}
+use Rattle.store.specs.declared.State.{State}
+use Rattle.store.specs.Codec.{Codec, realCodec}
+use Rattle.store.specs.Calls.{Call, Lent, Out, uses, Mode, modeIf, modeOf, short, withMem}
+use Rattle.store.specs.Store.{refuse, act, swept, store}
+use Rattle.store.specs.Opening.{open′}
+use Rattle.store.specs.Lawful.{Lawful, Good}
+use Rattle.store.specs.OpeningLaws.{Opens, opens}
+use Rattle.store.specs.RealCodec.{real-lawful}
 use Rattle.plain_file.specs.Plain.{Plain, closed, drafting, fileOf, plainStep}
 use Rattle.plain_file.specs.Claim.{Owed, Nothing, Lends, leaves, Turn, told, atBegin, Word, Promise, Claim}
 use Rattle.plain_file.specs.Invariant.{Inv, InvMode, inv-back}

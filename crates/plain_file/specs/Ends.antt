@@ -19,24 +19,24 @@ use Rattle.meta.specs.declared.superblock.Superblock.{Superblock}
 use Rattle.meta.specs.declared.ZeroExtent.{ZeroExtent}
 use Rattle.runs.specs.Sets.{covers}
 use Rattle.extents.specs.Plan.{Answer as Planned, tooMany, kept, below, plan}
-use Rattle.overlay.specs.declared.Overlay.{Overlay}
-use Rattle.overlay.specs.Lists.{tabulate, null}
-use Rattle.overlay.specs.ListLaws.{clash, tests, length-tabulate, tabulate-at}
-use Rattle.overlay.specs.Pages.{Page, pageNumbers}
-use Rattle.overlay.specs.Image.{imageByte}
-use Rattle.overlay.specs.Update.{Over, raw}
-use Rattle.overlay.specs.Refused.{Weak}
-use Rattle.overlay.specs.Reading.{raw-weak}
-use Rattle.blob.specs.declared.State.{State}
-use Rattle.blob.specs.declared.Answer.{Answer}
-use Rattle.blob.specs.declared.Answer.the-variants.{Done, Refused}
-use Rattle.blob.specs.Codec.{Codec, sealed, stored}
-use Rattle.blob.specs.Calls.{Lent, Out, out, number, Mode, idle, update, modeOf}
-use Rattle.blob.specs.Plan.{required, store-plan}
-use Rattle.blob.specs.Store.{runsOf, image, over, publish, settle, unchanged, plannedRuns, commitOver}
-use Rattle.blob.specs.Lawful.{Lawful, Good}
-use Rattle.blob.specs.MemoryLaws.{Reaches, grow-cases}
-use Rattle.blob.specs.CommitLaws.{newBlock, flushed, after, commit-good, commit-byte, after-size, after-base, after-count, after-runs}
+use Rattle.update.specs.declared.Overlay.{Overlay}
+use Rattle.update.specs.Lists.{tabulate, null}
+use Rattle.update.specs.ListLaws.{clash, tests, length-tabulate, tabulate-at}
+use Rattle.update.specs.Pages.{Page, pageNumbers}
+use Rattle.update.specs.Image.{imageByte}
+use Rattle.update.specs.Update.{Over, raw}
+use Rattle.update.specs.Refused.{Weak}
+use Rattle.update.specs.Reading.{raw-weak}
+use Rattle.store.specs.declared.State.{State}
+use Rattle.store.specs.declared.Answer.{Answer}
+use Rattle.store.specs.declared.Answer.the-variants.{Done, Refused}
+use Rattle.store.specs.Codec.{Codec, sealed, stored}
+use Rattle.store.specs.Calls.{Lent, Out, out, number, Mode, idle, update, modeOf}
+use Rattle.store.specs.Plan.{required, store-plan}
+use Rattle.store.specs.Store.{runsOf, image, over, publish, settle, unchanged, plannedRuns, commitOver}
+use Rattle.store.specs.Lawful.{Lawful, Good}
+use Rattle.store.specs.MemoryLaws.{Reaches, grow-cases}
+use Rattle.store.specs.CommitLaws.{newBlock, flushed, after, commit-good, commit-byte, after-size, after-base, after-count, after-runs}
 use Rattle.plain_file.specs.Plain.{File, Draft, Verdict, fine, runs31, range20, ceiling32, verdictNumber, farthest, judge, ground, fileGround, taken, fileOf}
 use Rattle.plain_file.specs.Invariant.{Draws}
 
@@ -231,7 +231,7 @@ module _ (P S C L M : ℕ) (k : Codec) (pos : 0 < P) (spos : 0 < S) (laws : Lawf
 
     same-plan : plannedRuns P S C L M k s m u ≡ pl
     unfolding plannedRuns
-    same-plan = store-plan P L (h .«db_size») (u .size) (runsOf P S C L M k h m) (u .recorded) (pageNumbers (u .dirty)) (g .sorted)
+    same-plan = store-plan P L (h .«db_size») (u .size) (runsOf P S C L M k h m) (u .recorded) (pageNumbers (u .dirty))
 
     pub committed : Committed c h m u (commitOver P S C L M k w s l (h .«db_size») u)
     unfolding commitOver

@@ -21,24 +21,24 @@ use Rattle.meta.specs.declared.superblock.Superblock.{Superblock}
 use Rattle.meta.specs.declared.ZeroExtent.{ZeroExtent}
 use Rattle.meta.specs.Runs.{normalized-nil}
 use Rattle.runs.specs.Sets.{covers}
-use Rattle.overlay.specs.declared.Overlay.{Overlay}
-use Rattle.overlay.specs.declared.Budget.{Budget}
-use Rattle.overlay.specs.ListLaws.{clash, tests}
-use Rattle.overlay.specs.Image.{imageByte}
-use Rattle.overlay.specs.Update.{Over, raw, truncated, written, fresh, Tried, accepted, refused, tryWrite, tryTruncate}
-use Rattle.overlay.specs.Buffers.{frameCount, entryCount, cached, view, overlayOf}
-use Rattle.overlay.specs.BufferLaws.{cached-put, view-fresh}
-use Rattle.overlay.specs.Refused.{Weak, Outcome, write-out, truncate-out}
-use Rattle.overlay.specs.Reading.{reads}
-use Rattle.blob.specs.declared.State.{State}
-use Rattle.blob.specs.declared.Answer.{Answer}
-use Rattle.blob.specs.declared.Answer.the-variants.{Done, Size, Read, Checksum, Refused}
-use Rattle.blob.specs.Codec.{Codec, sealed, stored}
-use Rattle.blob.specs.Blocks.{importing, refreshing, afterImportBegin, afterImportChunk, afterImportCancel, afterImportFinish, afterRefresh, afterRefreshStep, Keeps, KeepsImport, ImportBegins, after-begin, begin-keeps, ChunkKeeps, after-chunk, cancel-keeps, after-cancel, Finishes, after-finish, refresh-keeps, refresh-imports, step-keeps, step-imports, seal-importing}
-use Rattle.blob.specs.Calls.{Call, begin, read, write, truncate, commit, rollback, fileSize, importBegin, importChunk, importFinish, importCancel, export, checksum, refresh, refreshStep, Lent, Out, out, number, uses, Mode, idle, update, modeOf, short, cleared, withMem}
-use Rattle.blob.specs.Store.{resting, working, onward, budgetOf, runsOf, image, imageBytes, imageSum, over, commitOver, direct, doBegin, restore, doImportBegin, placeChunk, doImportChunk, doImportFinish, doImportCancel, doExport, doChecksum, doRefresh, progress, refreshFrom, doRefreshStep, act, swept}
-use Rattle.blob.specs.Lawful.{Fits, Lawful, Good}
-use Rattle.blob.specs.MemoryLaws.{Reaches, grow-cases, stored-high, stored-length}
+use Rattle.update.specs.declared.Overlay.{Overlay}
+use Rattle.update.specs.declared.Budget.{Budget}
+use Rattle.update.specs.ListLaws.{clash, tests}
+use Rattle.update.specs.Image.{imageByte}
+use Rattle.update.specs.Update.{Over, raw, truncated, written, fresh, Tried, accepted, refused, tryWrite, tryTruncate}
+use Rattle.update.specs.Buffers.{frameCount, entryCount, cached, view, overlayOf}
+use Rattle.update.specs.BufferLaws.{cached-put, view-fresh}
+use Rattle.update.specs.Refused.{Weak, Outcome, write-out, truncate-out}
+use Rattle.update.specs.Reading.{reads}
+use Rattle.store.specs.declared.State.{State}
+use Rattle.store.specs.declared.Answer.{Answer}
+use Rattle.store.specs.declared.Answer.the-variants.{Done, Size, Read, Checksum, Refused}
+use Rattle.store.specs.Codec.{Codec, sealed, stored}
+use Rattle.store.specs.Blocks.{importing, refreshing, afterImportBegin, afterImportChunk, afterImportCancel, afterImportFinish, afterRefresh, afterRefreshStep, Keeps, KeepsImport, ImportBegins, after-begin, begin-keeps, ChunkKeeps, after-chunk, cancel-keeps, after-cancel, Finishes, after-finish, refresh-keeps, refresh-imports, step-keeps, step-imports, seal-importing}
+use Rattle.store.specs.Calls.{Call, begin, read, write, truncate, commit, rollback, fileSize, importBegin, importChunk, importFinish, importCancel, export, checksum, refresh, refreshStep, Lent, Out, out, number, uses, Mode, idle, update, modeOf, short, cleared, withMem}
+use Rattle.store.specs.Store.{resting, working, onward, budgetOf, runsOf, image, imageBytes, imageSum, over, commitOver, direct, doBegin, restore, doImportBegin, placeChunk, doImportChunk, doImportFinish, doImportCancel, doExport, doChecksum, doRefresh, progress, refreshFrom, doRefreshStep, act, swept}
+use Rattle.store.specs.Lawful.{Fits, Lawful, Good}
+use Rattle.store.specs.MemoryLaws.{Reaches, grow-cases, stored-high, stored-length}
 use Rattle.plain_file.specs.Plain.{File, Draft, Plain, closed, drafting, copied, draftWrite, draftTruncate, verdictNumber, fileGround, fileOf, changed}
 use Rattle.plain_file.specs.Claim.{Reads, Direct, Lends, leaves, atBegin, Word}
 use Rattle.plain_file.specs.Invariant.{Draws, Inv, good-near, file-near, inv-back}

@@ -12,21 +12,21 @@ use Rattle.memory.specs.Laws.{split, append-at}
 use Rattle.meta.specs.declared.superblock.Superblock.{Superblock}
 use Rattle.meta.specs.declared.ZeroExtent.{ZeroExtent}
 use Rattle.runs.specs.Sets.{covers}
-use Rattle.overlay.specs.declared.Overlay.{Overlay}
-use Rattle.overlay.specs.Lists.{tabulate}
-use Rattle.overlay.specs.ListLaws.{tests, tabulate-alike, take-alike}
-use Rattle.overlay.specs.Pages.{pageNumbers}
-use Rattle.overlay.specs.Image.{imageByte}
-use Rattle.overlay.specs.Update.{Over}
-use Rattle.overlay.specs.Buffers.{Buffers, cached, view}
-use Rattle.overlay.specs.BufferLaws.{view-alike}
-use Rattle.overlay.specs.Changes.{Like}
-use Rattle.overlay.specs.Refused.{Weak}
-use Rattle.blob.specs.declared.State.{State}
-use Rattle.blob.specs.Codec.{Codec}
-use Rattle.blob.specs.Calls.{Lent, Mode, idle, update, modeOf}
-use Rattle.blob.specs.Store.{runsOf, image}
-use Rattle.blob.specs.Lawful.{Lawful, Good}
+use Rattle.update.specs.declared.Overlay.{Overlay}
+use Rattle.update.specs.Lists.{tabulate}
+use Rattle.update.specs.ListLaws.{tests, tabulate-alike, take-alike}
+use Rattle.update.specs.Pages.{pageNumbers}
+use Rattle.update.specs.Image.{imageByte}
+use Rattle.update.specs.Update.{Over}
+use Rattle.update.specs.Buffers.{Buffers, cached, view}
+use Rattle.update.specs.BufferLaws.{view-alike}
+use Rattle.update.specs.Changes.{Like}
+use Rattle.update.specs.Refused.{Weak}
+use Rattle.store.specs.declared.State.{State}
+use Rattle.store.specs.Codec.{Codec}
+use Rattle.store.specs.Calls.{Lent, Mode, idle, update, modeOf}
+use Rattle.store.specs.Store.{runsOf, image}
+use Rattle.store.specs.Lawful.{Lawful, Good}
 use Rattle.plain_file.specs.Plain.{File, Draft, Plain, closed, drafting, fileOf}
 use Rattle.plain_file.specs.Claim.{AsLeft, dirtyOf, recordOf, cachedOf, Lends, laid, leaves}
 

@@ -9,11 +9,11 @@ use Rattle.memory.specs.Bytes.{resize}
 use Rattle.meta.specs.declared.ZeroExtent.{ZeroExtent}
 use Rattle.runs.specs.Sets.{covers}
 use Rattle.extents.specs.Plan.{Answer, tooMany, kept, below, plan}
-use Rattle.overlay.specs.Lists.{put, tabulate, null}
-use Rattle.overlay.specs.Pages.{addNumbers, addNumberIf, partial, span, grownNumbers}
-use Rattle.overlay.specs.Update.{pushRun}
-use Rattle.blob.specs.Codec.{Codec}
-use Rattle.blob.specs.Calls.{Call, begin, read, write, truncate, commit, rollback, fileSize, importBegin, importChunk, importFinish, importCancel, export, checksum, refresh, refreshStep}
+use Rattle.update.specs.Lists.{put, tabulate, null}
+use Rattle.update.specs.Pages.{addNumbers, addNumberIf, partial, span, grownNumbers}
+use Rattle.update.specs.Update.{pushRun}
+use Rattle.store.specs.Codec.{Codec}
+use Rattle.store.specs.Calls.{Call, begin, read, write, truncate, commit, rollback, fileSize, importBegin, importChunk, importFinish, importCancel, export, checksum, refresh, refreshStep}
 
 -- "The plain file has size, bytes, base and zero runs"; its size is the number of its bytes
 pub record File : Type 0 where

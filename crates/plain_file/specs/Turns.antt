@@ -15,26 +15,26 @@ use Rattle.meta.specs.declared.superblock.Superblock.{Superblock}
 use Rattle.meta.specs.Runs.{numbersOf as runNumbers}
 use Rattle.runs.specs.FlatLaws.{length-numbers}
 use Rattle.extents.specs.Plan.{below}
-use Rattle.overlay.specs.declared.Overlay.{Overlay}
-use Rattle.overlay.specs.declared.Budget.{Budget}
-use Rattle.overlay.specs.Lists.{refill}
-use Rattle.overlay.specs.ListLaws.{clash, tests, take-alike, refill-length}
-use Rattle.overlay.specs.Pages.{pageNumbers, flat, addNumbers, addNumberIf, partial, span, grownNumbers}
-use Rattle.overlay.specs.PageLaws.{numbers-length, flat-length}
-use Rattle.overlay.specs.Update.{Over, pushRun, truncated, written, readOver, Tried, accepted, refused, left, tryWrite, tryTruncate, truncateReach}
-use Rattle.overlay.specs.Buffers.{Buffers, frameCount, entryCount, wiped, cached, shortBuffers, view, overlayOf, putBack}
-use Rattle.overlay.specs.BufferLaws.{cached-put, view-put}
-use Rattle.overlay.specs.Changes.{Like, write-like, truncate-like, write-numbers, write-recorded, truncate-numbers, truncate-recorded}
-use Rattle.overlay.specs.Refused.{Weak, all-sized, Outcome, write-out, truncate-out}
-use Rattle.overlay.specs.Reading.{Seen, read-seen, read-bytes, seen-like}
-use Rattle.blob.specs.declared.State.{State}
-use Rattle.blob.specs.declared.Answer.{Answer}
-use Rattle.blob.specs.declared.Answer.the-variants.{Size, Read, Refused}
-use Rattle.blob.specs.Codec.{Codec}
-use Rattle.blob.specs.Blocks.{importing}
-use Rattle.blob.specs.Calls.{Call, begin, read, write, truncate, commit, rollback, fileSize, importBegin, importChunk, importFinish, importCancel, export, checksum, refresh, refreshStep, Lent, Out, number, uses, Mode, idle, update, modeOf, buffersShort, short, cleared, withBuffers}
-use Rattle.blob.specs.Store.{working, budgetOf, image, full, answerOf, inUpdate, commitOver, doBegin, act, swept}
-use Rattle.blob.specs.Lawful.{Lawful, Good}
+use Rattle.update.specs.declared.Overlay.{Overlay}
+use Rattle.update.specs.declared.Budget.{Budget}
+use Rattle.update.specs.Lists.{refill}
+use Rattle.update.specs.ListLaws.{clash, tests, take-alike, refill-length}
+use Rattle.update.specs.Pages.{pageNumbers, flat, addNumbers, addNumberIf, partial, span, grownNumbers}
+use Rattle.update.specs.PageLaws.{numbers-length, flat-length}
+use Rattle.update.specs.Update.{Over, pushRun, truncated, written, readOver, Tried, accepted, refused, left, tryWrite, tryTruncate, truncateReach}
+use Rattle.update.specs.Buffers.{Buffers, frameCount, entryCount, wiped, cached, shortBuffers, view, overlayOf, putBack}
+use Rattle.update.specs.BufferLaws.{cached-put, view-put}
+use Rattle.update.specs.Changes.{Like, write-like, truncate-like, write-numbers, write-recorded, truncate-numbers, truncate-recorded}
+use Rattle.update.specs.Refused.{Weak, all-sized, Outcome, write-out, truncate-out}
+use Rattle.update.specs.Reading.{Seen, read-seen, read-bytes, seen-like}
+use Rattle.store.specs.declared.State.{State}
+use Rattle.store.specs.declared.Answer.{Answer}
+use Rattle.store.specs.declared.Answer.the-variants.{Size, Read, Refused}
+use Rattle.store.specs.Codec.{Codec}
+use Rattle.store.specs.Blocks.{importing}
+use Rattle.store.specs.Calls.{Call, begin, read, write, truncate, commit, rollback, fileSize, importBegin, importChunk, importFinish, importCancel, export, checksum, refresh, refreshStep, Lent, Out, number, uses, Mode, idle, update, modeOf, buffersShort, short, cleared, withBuffers}
+use Rattle.store.specs.Store.{working, budgetOf, image, full, answerOf, inUpdate, commitOver, doBegin, act, swept}
+use Rattle.store.specs.Lawful.{Lawful, Good}
 use Rattle.plain_file.specs.Plain.{File, Draft, Plain, closed, drafting, draftWrite, draftTruncate, spoil, verdictNumber, fileGround, fileOf, fromMemory, changed, committed as committedFile, plainStep}
 use Rattle.plain_file.specs.Claim.{Reads, Kept, Unspoiled, Owed, dirtyOf, recordOf, cachedOf, Lends, laid, leaves, told, atBegin, Word}
 use Rattle.plain_file.specs.Invariant.{Draws, Facts, Busy, Inv, InvMode, Near, Long, laid-long, laid-back, good-near, file-near, inv-near, inv-long, inv-back, inv-out}

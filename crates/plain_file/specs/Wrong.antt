@@ -20,22 +20,22 @@ use Rattle.meta.specs.Block.{magic, ofFields}
 use Rattle.runs.specs.Sets.{covers, within, merge, insert, add, around, remove}
 use Rattle.runs.specs.Flat.{runsIn as flatRuns}
 use Rattle.extents.specs.Plan.{additions, addOne, remain, plan}
-use Rattle.overlay.specs.declared.Overlay.{Overlay}
-use Rattle.overlay.specs.Lists.{put, refill, tabulate}
-use Rattle.overlay.specs.ListLaws.{clash}
-use Rattle.overlay.specs.Pages.{pageByte, addNumberIf, span, grownNumbers}
-use Rattle.overlay.specs.Image.{imageByte, imagePage}
-use Rattle.overlay.specs.Update.{Over, pushRun, raw, overByte, budgetBytes, raised, touch, blank, copy, stretch, patch, finish, grow, growTo, chop, tail, truncated, wholePage, overWrite, written, fresh, lookUp, Tried, accepted, refused, sized, passing, marked, tryTouch, tryPatch, tryFinish, tryGrow, tryGrowTo, tryTail, tryChop, tryTruncate, tryWrite}
-use Rattle.overlay.specs.Buffers.{Buffers, frameCount, entryCount, wiped, cached, shortBuffers, view, overlayOf, putBack}
-use Rattle.blob.specs.declared.State.{State}
-use Rattle.blob.specs.declared.Answer.the-variants.{Done, Read, Refused}
-use Rattle.blob.specs.Codec.{Codec, stored}
-use Rattle.blob.specs.Small.{smallCodec, smallSum, smallDecode, smallRuns, smallLoad, smallFresh, small-lawful}
-use Rattle.blob.specs.Blocks.{importing, stale, refreshing, marks, afterCommit}
-use Rattle.blob.specs.Calls.{Call, begin, read, write, truncate, commit, rollback, fileSize, importBegin, importChunk, importFinish, importCancel, export, checksum, refresh, refreshStep, Lent, Out, out, number, Mode, idle, update, modeOf, short, withMem, withBuffers}
-use Rattle.blob.specs.Plan.{storePlan}
-use Rattle.blob.specs.Store.{working, noOverlay, ended, image, imageBytes, over, unchanged, plannedRuns, commitOver, inUpdate, store}
-use Rattle.blob.specs.Opening.{outside, open′}
+use Rattle.update.specs.declared.Overlay.{Overlay}
+use Rattle.update.specs.Lists.{put, refill, tabulate}
+use Rattle.update.specs.ListLaws.{clash}
+use Rattle.update.specs.Pages.{pageByte, addNumberIf, span, grownNumbers}
+use Rattle.update.specs.Image.{imageByte, imagePage}
+use Rattle.update.specs.Update.{Over, pushRun, raw, overByte, budgetBytes, raised, touch, blank, copy, stretch, patch, finish, grow, growTo, chop, tail, truncated, wholePage, overWrite, written, fresh, lookUp, Tried, accepted, refused, sized, passing, marked, tryTouch, tryPatch, tryFinish, tryGrow, tryGrowTo, tryTail, tryChop, tryTruncate, tryWrite}
+use Rattle.update.specs.Buffers.{Buffers, frameCount, entryCount, wiped, cached, shortBuffers, view, overlayOf, putBack}
+use Rattle.store.specs.declared.State.{State}
+use Rattle.store.specs.declared.Answer.the-variants.{Done, Read, Refused}
+use Rattle.store.specs.Codec.{Codec, stored}
+use Rattle.store.specs.Small.{smallCodec, smallSum, smallDecode, smallRuns, smallLoad, smallFresh, small-lawful}
+use Rattle.store.specs.Blocks.{importing, stale, refreshing, marks, afterCommit}
+use Rattle.store.specs.Calls.{Call, begin, read, write, truncate, commit, rollback, fileSize, importBegin, importChunk, importFinish, importCancel, export, checksum, refresh, refreshStep, Lent, Out, out, number, Mode, idle, update, modeOf, short, withMem, withBuffers}
+use Rattle.store.specs.Plan.{storePlan}
+use Rattle.store.specs.Store.{working, noOverlay, ended, image, imageBytes, over, unchanged, plannedRuns, commitOver, inUpdate, store}
+use Rattle.store.specs.Opening.{outside, open′}
 use Rattle.plain_file.specs.Plain.{closed, copied, spoil, draftWrite, draftTruncate, ground, fileGround, fileOf}
 use Rattle.plain_file.specs.Claim.{Step, Lends, laid, leaves, Turn, Promise, Claim}
 use Rattle.plain_file.specs.Demand3.{meets}

@@ -111,7 +111,7 @@ pub length-numbers : (l : List ZeroExtent) → length (numbersOf l) ≡ length l
 length-numbers [] = refl
 length-numbers (x ∷ l) = omega (arith, length-numbers l)
 
-runs-numbers : (l : List ZeroExtent) (t : List ℕ) → runsOf (take (length l * 2) (numbersOf l ++ t)) ≡ l
+pub runs-numbers : (l : List ZeroExtent) (t : List ℕ) → runsOf (take (length l * 2) (numbersOf l ++ t)) ≡ l
 runs-numbers [] t = refl
 runs-numbers (x ∷ l) t =
     let e : suc (length l) * 2 ≡ suc (suc (length l * 2)) = omega arith in
@@ -423,7 +423,7 @@ clear-step n k w e h =
 pub clear-last : (n k : ℕ) (w : List ℕ) → length w ≡ n → n ≤ k → padded n (take k w) ≡ w
 clear-last n k w e h = rw (take-all k w (omega arith)) (padded-all n w (omega arith))
 
-numbers-runs : (v : List ℕ) (k : ℕ) → length v ≡ k * 2 → numbersOf (runsOf v) ≡ v
+pub numbers-runs : (v : List ℕ) (k : ℕ) → length v ≡ k * 2 → numbersOf (runsOf v) ≡ v
 numbers-runs [] k e = refl
 numbers-runs (a ∷ []) k e = absurd (omega arith)
 numbers-runs (a ∷ b ∷ v) zero e = absurd (omega arith)

@@ -18,7 +18,7 @@ pub split {ℓ} : {X : Type ℓ} (b : Bool) → (b ≡ true → X) → (b ≡ fa
 split true t f = t refl
 split false t f = f refl
 
-both : (a b : Bool) → (a && b) ≡ true → (a ≡ true) × (b ≡ true)
+pub both : (a b : Bool) → (a && b) ≡ true → (a ≡ true) × (b ≡ true)
 both true b e = (refl, e)
 both false b e = (e, absurd (true≢false (sym e)))
 
