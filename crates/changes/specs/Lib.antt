@@ -1,0 +1,4 @@
+pub mod FitLaws
+pub mod GrowLaws
+pub mod CutLaws
+pub mod WriteLaws

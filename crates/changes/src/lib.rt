@@ -1,0 +1,7 @@
+// What writes and truncations do to an update in the lent slices, once these are known to hold it.
+mod growth;
+mod truncation;
+mod writing;
+
+pub use truncation::resize;
+pub use writing::write;

@@ -1,0 +1,6 @@
+pub mod Pool
+pub mod Cache
+pub mod CacheLaws
+pub mod PoolLaws
+pub mod WalkLaws
+pub mod PushLaws
