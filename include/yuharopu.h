@@ -60,6 +60,59 @@ uint64_t yuharopu_plan(uint64_t *work, size_t work_len, const uint64_t *extents,
                        uint64_t new_size, const uint64_t *record, size_t record_len, const uint64_t *dirty,
                        size_t dirty_len, uint64_t *answer, size_t answer_len);
 
+/* An update of an image: dirty pages in `frames`, 16,384 bytes each, with their page numbers in `numbers`, in order of
+ * first touch; clean pages in `clean`, at least 8 pages; zero runs in `record`, two numbers a run, start then end, in
+ * order of push. Its numbers pass as `state`: base_size, size, dirty, recorded, cache.count, the eight cache.pages,
+ * limited (0 or 1; any other number counts as 1), max_pages, max_bytes, passed (0, 1 by pages, 2 by bytes), peak_pages,
+ * peak_bytes. Every call leaves places past these as they are. An `image` is three numbers: size, base, runs; its bytes
+ * and runs lie in `mem`, whose superblock is not tested. Places of the slices that an update does not use may hold
+ * anything and stay; those that it freed are zeros.
+ *
+ * 35, nothing changed: `state` has fewer than 19 places, `image` fewer than three, `full` none, `clean` fewer than
+ * 131,072 bytes, or frames, numbers or record hold less than the state says. */
+#define YUHAROPU_OVERLAY_NUMBERS 19
+#define YUHAROPU_IMAGE_NUMBERS 3
+
+/* An update of an image of base_size bytes that has just begun. */
+uint64_t yuharopu_overlay_new(uint64_t base_size, uint64_t limited, uint64_t max_pages, uint64_t max_bytes,
+                              uint64_t *state, size_t state_len);
+
+/* 1 where there is no size change, dirty page or record, else 0. */
+uint64_t yuharopu_overlay_is_empty(const uint64_t *state, size_t state_len);
+
+/* All of `dst` is read from `offset` on, zeros past the size. full[0] is 1 where the read is empty or ends at or before
+ * the size, else 0. */
+uint64_t yuharopu_overlay_read_at(uint64_t *state, size_t state_len, const uint64_t *image, size_t image_len,
+                                  const uint8_t *mem, size_t mem_len, const uint8_t *frames, size_t frames_len,
+                                  const uint64_t *numbers, size_t numbers_len, uint8_t *clean, size_t clean_len,
+                                  const uint64_t *record, size_t record_len, uint64_t offset, uint8_t *dst,
+                                  size_t dst_len, uint64_t *full, size_t full_len);
+
+/* `bytes` are written from `offset` on. 20, 34, 30, 33 as in docs/REFUSALS.md: the size stays, and record, pages loaded
+ * and bytes copied stay too. */
+uint64_t yuharopu_overlay_write_at(uint64_t *state, size_t state_len, const uint64_t *image, size_t image_len,
+                                   const uint8_t *mem, size_t mem_len, uint8_t *frames, size_t frames_len,
+                                   uint64_t *numbers, size_t numbers_len, uint8_t *clean, size_t clean_len,
+                                   uint64_t *record, size_t record_len, uint64_t offset, const uint8_t *bytes,
+                                   size_t bytes_len);
+
+/* The size becomes `size`. 34, 20, 30, 33 likewise; refused at its last step, the tail of the last page, it keeps the
+ * new size. */
+uint64_t yuharopu_overlay_truncate(uint64_t *state, size_t state_len, const uint64_t *image, size_t image_len,
+                                   const uint8_t *mem, size_t mem_len, uint8_t *frames, size_t frames_len,
+                                   uint64_t *numbers, size_t numbers_len, uint8_t *clean, size_t clean_len,
+                                   uint64_t *record, size_t record_len, uint64_t size);
+
+/* The dirty page's bytes in front of `dst`, as far as it reaches: 16,384, or 0 where the page is not dirty. 35 for a
+ * short `state`. */
+uint64_t yuharopu_overlay_dirty_page(const uint64_t *state, size_t state_len, const uint8_t *frames, size_t frames_len,
+                                     const uint64_t *numbers, size_t numbers_len, uint64_t page, uint8_t *dst,
+                                     size_t dst_len);
+
+/* All of these slices become zeros, as at the end of an update. */
+void yuharopu_overlay_wipe(uint8_t *frames, size_t frames_len, uint64_t *numbers, size_t numbers_len, uint8_t *clean,
+                           size_t clean_len, uint64_t *record, size_t record_len);
+
 #ifdef __cplusplus
 }
 #endif

@@ -1,4 +1,6 @@
 // The C functions. Each takes any argument; a slice passes as a pointer and a number of elements.
+mod overlay_calls;
+
 ghost use mathlib.Core.Path.{_≡_};
 ghost use Rattle.config.specs.Pages.{count};
 ghost use Rattle.meta.specs.Fnv.{fold, fnv1a64};

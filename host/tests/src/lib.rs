@@ -14,6 +14,7 @@ pub mod plan_text;
 pub mod prng;
 pub mod recipe;
 pub mod recorded;
+pub mod update;
 
 use answer::Answer;
 use recipe::Recipe;
