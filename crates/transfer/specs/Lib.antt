@@ -1,0 +1,4 @@
+pub mod OnMemory
+pub mod Steps
+pub mod StoreCases
+pub mod RefreshLaws
