@@ -23,19 +23,19 @@ runs.specs.Sets| within merge insert add around piece remove
 runs.specs.Flat| runsIn=flatRuns
 runs.specs.Image|real imageNumbers imageCount
 extents.specs.Plan| additions addOne remain plan
-overlay.specs.Lists| put refill tabulate
-overlay.specs.Pages| addNumberIf span grownNumbers
-overlay.specs.Image| imageByte imagePage
-overlay.specs.Update| pushRun raw overByte budgetBytes raised touch blank copy stretch patch finish grow growTo chop tail truncated wholePage overWrite written fresh lookUp sized passing marked tryTouch tryPatch tryFinish tryGrow tryGrowTo tryTail tryChop tryTruncate tryWrite
-overlay.specs.Buffers| frameCount entryCount wiped cached shortBuffers view overlayOf putBack dirtyPage
-blob.specs.Codec| stored
-blob.specs.Codec|real realCodec
-blob.specs.Small|small smallCodec smallSum smallDecode smallRuns smallLoad smallFresh
-blob.specs.Blocks| importing stale refreshing marks afterCommit afterImportBegin afterImportChunk afterImportCancel afterImportFinish afterRefresh afterRefreshStep
-blob.specs.Calls begin read write truncate commit rollback fileSize importBegin importChunk importFinish importCancel export checksum refresh refreshStep Lent Out out modeOf| short
-blob.specs.Plan| storePlan
-blob.specs.Store dirtyIn| noOverlay imageBytes unchanged plannedRuns commitOver restore doImportBegin doImportChunk doImportFinish doImportCancel doExport imageSum doChecksum doRefresh refreshFrom doRefreshStep store
-blob.specs.Opening Opened| outside open′
+update.specs.Lists| put refill tabulate
+update.specs.Pages| addNumberIf span grownNumbers
+update.specs.Image| imageByte imagePage
+update.specs.Update| pushRun raw overByte budgetBytes raised touch blank copy stretch patch finish grow growTo chop tail truncated wholePage overWrite written fresh lookUp sized passing marked tryTouch tryPatch tryFinish tryGrow tryGrowTo tryTail tryChop tryTruncate tryWrite
+update.specs.Buffers| frameCount entryCount wiped cached shortBuffers view overlayOf putBack dirtyPage
+store.specs.Codec| stored
+store.specs.Codec|real realCodec
+store.specs.Small|small smallCodec smallSum smallDecode smallRuns smallLoad smallFresh
+store.specs.Blocks| importing stale refreshing marks afterCommit afterImportBegin afterImportChunk afterImportCancel afterImportFinish afterRefresh afterRefreshStep
+store.specs.Calls begin read write truncate commit rollback fileSize importBegin importChunk importFinish importCancel export checksum refresh refreshStep Lent Out out modeOf| short
+store.specs.Plan| storePlan
+store.specs.Store dirtyIn| noOverlay imageBytes unchanged plannedRuns commitOver restore doImportBegin doImportChunk doImportFinish doImportCancel doExport imageSum doChecksum doRefresh refreshFrom doRefreshStep store
+store.specs.Opening Opened| outside open′
 """
 
 SHAPES = """-- Short forms of states, lent slices and refusals, for the compared calls.
