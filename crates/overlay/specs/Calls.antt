@@ -19,14 +19,17 @@ use Rattle.overlay.specs.declared.reading.Reading.the-variants.{Refused 
 
 -- page size, cache pages, the largest number; the image, the memory, the overlay and what it is lent
 module _ (P C M : ℕ) (i : Image) (mem : List ℕ) (v : Overlay) (l : Buffers) where
+  -- 01, 35: "tested first everywhere, of what the call is lent .. nothing changes"
   abbrev pub tooShort : Laid
   tooShort = laid v l (Refused BufferTooShort)
 
+  -- 01: "A write tests 20 for its end, 34, 20 for the old last page's end, then page by page 30 and 33"
   unfoldable pub writeAt : ℕ → List ℕ → Laid
   writeAt o bs =
       cond (shortBuffers P C v l) tooShort
       (leave P C v l (v .dirty) (tryWrite P M (frameCount P l) (entryCount l) (imageIn P i mem) o bs (view P C v l)))
 
+  -- 01: "a truncation the same but the first"
   unfoldable pub truncateTo : ℕ → Laid
   truncateTo n = cond (shortBuffers P C v l) tooShort (resized P C M i mem v l n)
 
@@ -58,6 +61,7 @@ module _ (P C : ℕ) (i : Image) (mem : List ℕ) (v : Overlay) (l : Buffers) wh
   unfoldable pub rangeRead : ℕ → ℕ → Seen
   rangeRead o n = showing (readOver P C (imageIn P i mem) o n (view P C v l)) (readBytes P C (imageIn P i mem) o n (view P C v l)) Full
 
+  -- 01: "bytes past the size are zeros. Only 35 can refuse a read."
   unfoldable pub readAt : ℕ → List ℕ → Seen
   readAt o d =
       cond (shortBuffers P C v l) (seen v l d (Unread BufferTooShort))
