@@ -16,12 +16,12 @@ memory.specs.Bytes| zeros overwrite resize
 memory.specs.Growth stable| growTo=growMemory required=requiredPages
 meta.specs.Runs| normalized
 meta.specs.Block magic ofFields|real fieldsIn decode=decodeBlock checksumOf seal prefix encodedLen blockBytes encode header headerOf fresh=freshBlock
-meta.specs.Words|real word wordAt
-meta.specs.Fnv|real mixed step fold fnv1a64
+words.specs.Words|real word wordAt
+fnv.specs.Fnv|real mixed step fold fnv1a64
 meta.specs.Load|real load=loadBlock judge blockRuns checksumIn
 runs.specs.Sets| within merge insert add around piece remove
 runs.specs.Flat| runsIn=flatRuns
-runs.specs.Image|real imageNumbers imageCount
+image_runs.specs.Image|real imageNumbers imageCount
 extents.specs.Plan| additions addOne remain plan
 update.specs.Lists| put refill tabulate
 update.specs.Pages| addNumberIf span grownNumbers

@@ -1,4 +1,3 @@
 pub mod FitLaws
-pub mod GrowLaws
 pub mod CutLaws
 pub mod WriteLaws

@@ -1,5 +1,4 @@
 // What writes and truncations do to an update in the lent slices, once these are known to hold it.
-mod growth;
 mod truncation;
 mod writing;
 

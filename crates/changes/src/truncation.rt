@@ -1,5 +1,4 @@
 // Truncations of the file of an update.
-use crate::growth;
 use config::PAGE_LEN;
 use config::Refusal;
 use pool::Pushed;

@@ -1,5 +1,4 @@
 // Writes to the file of an update.
-use crate::growth;
 use config::PAGE_LEN;
 use update::Changed;
 use update::Image;

@@ -29,7 +29,7 @@ use Rattle.meta.specs.Runs.{runsOf, numbersOf}
 use Rattle.meta.specs.Stored.{outcome as written}
 use Rattle.runs.specs.Flat.{runsIn, padded}
 use Rattle.runs.specs.FlatLaws.{length-numbers, length-runsIn, numbers-runs, laid-runs}
-use Rattle.runs.specs.Image.{imageRuns}
+use Rattle.image_runs.specs.Image.{imageRuns}
 use Rattle.extents.specs.Plan.{below, plan, Answer as Plan, tooMany, kept}
 use Rattle.extents.specs.Outcome.{planned, outcome as plannedOut}
 use Rattle.extents.specs.declared.Planned.{Planned}

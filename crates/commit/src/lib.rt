@@ -19,7 +19,7 @@ ghost use Rattle.meta.specs.Runs.{runsOf, numbersOf};
 ghost use Rattle.memory.specs.Growth.{growTo};
 ghost use Rattle.update.specs.Pages.{pagesIn};
 ghost use Rattle.runs.specs.Flat.{runsIn};
-ghost use Rattle.runs.specs.Image.{imageRuns};
+ghost use Rattle.image_runs.specs.Image.{imageRuns};
 ghost use Rattle.store.specs.Codec.{realCodec};
 ghost use Rattle.store.specs.declared.Answer.the-variants.{Refused};
 ghost use Rattle.store.specs.Plan.{storePlan, required};

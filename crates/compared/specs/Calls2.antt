@@ -12,12 +12,12 @@ use Rattle.memory.specs.Bytes.{zeros, overwrite, resize}
 use Rattle.memory.specs.Growth.{stable, growTo as growMemory, required as requiredPages}
 use Rattle.meta.specs.Runs.{normalized}
 use Rattle.meta.specs.Block.{magic, ofFields, fieldsIn, decode as decodeBlock, checksumOf, seal, prefix, encodedLen, blockBytes, encode, header, headerOf, fresh as freshBlock}
-use Rattle.meta.specs.Words.{word, wordAt}
-use Rattle.meta.specs.Fnv.{mixed, step, fold, fnv1a64}
+use Rattle.words.specs.Words.{word, wordAt}
+use Rattle.fnv.specs.Fnv.{mixed, step, fold, fnv1a64}
 use Rattle.meta.specs.Load.{load as loadBlock, judge, blockRuns, checksumIn}
 use Rattle.runs.specs.Sets.{within, merge, insert, add, around, piece, remove}
 use Rattle.runs.specs.Flat.{runsIn as flatRuns}
-use Rattle.runs.specs.Image.{imageNumbers, imageCount}
+use Rattle.image_runs.specs.Image.{imageNumbers, imageCount}
 use Rattle.extents.specs.Plan.{additions, addOne, remain, plan}
 use Rattle.update.specs.Lists.{put, refill, tabulate}
 use Rattle.update.specs.Pages.{addNumberIf, span, grownNumbers}

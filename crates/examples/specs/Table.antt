@@ -15,14 +15,14 @@ use Rattle.memory.specs.Laws.{length-zeros}
 use Rattle.memory.specs.Growth.{growTo as growMemory, required as requiredPages}
 use Rattle.meta.specs.declared.superblock.Superblock.{Superblock}
 use Rattle.meta.specs.declared.ZeroExtent.{ZeroExtent}
-use Rattle.meta.specs.Words.{word, wordAt}
-use Rattle.meta.specs.Fnv.{basis, mixed, step, fold, fnv1a64, fnv-of-none}
+use Rattle.words.specs.Words.{word, wordAt}
+use Rattle.fnv.specs.Fnv.{basis, mixed, step, fold, fnv1a64, fnv-of-none}
 use Rattle.meta.specs.Runs.{run, numbersOf, normalized}
 use Rattle.meta.specs.Block.{magic, ofFields, header, headerOf, blockBytes, encode, fieldsIn, decode, encodedLen, prefix, checksumOf, seal, storeIn, fresh as freshBlock}
 use Rattle.meta.specs.Load.{blockRuns, checksumIn, judge as judgeBlock, load as loadBlock}
 use Rattle.runs.specs.Sets.{covers, within, merge, insert, add, around, piece, remove}
 use Rattle.runs.specs.Flat.{runsIn as flatRuns}
-use Rattle.runs.specs.Image.{imageCount, imageNumbers}
+use Rattle.image_runs.specs.Image.{imageCount, imageNumbers}
 use Rattle.extents.specs.Plan.{additions, tooMany, kept, Answer as Planned}
 use Rattle.update.specs.Lists.{put, refill, tabulate}
 use Rattle.update.specs.Pages.{Page, pageByte, addNumberIf, span, grownNumbers}

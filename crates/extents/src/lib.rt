@@ -8,7 +8,7 @@ ghost use lib.ListN.{length, take};
 ghost use Rattle.meta.specs.Runs.{run, normalized};
 ghost use Rattle.runs.specs.Sets.{maximal};
 ghost use Rattle.runs.specs.Flat.{runsIn};
-ghost use Rattle.runs.specs.Image.{imageRuns};
+ghost use Rattle.image_runs.specs.Image.{imageRuns};
 ghost use Rattle.extents.specs.Plan.{below, additions, addOne, addEach, removeEach, plan as planOf};
 ghost use Rattle.extents.specs.Outcome.{outcome, planned, Lent};
 ghost use Rattle.extents.specs.Steps.{told, Ready, Added, Left};
@@ -186,7 +186,7 @@ pub fn plan(
     requires { ⌜ (1025 + dirty * 2) * 2 ≤ length (now work) ⌝ }
     ensures { λ r. ⌜ outcome r (now (work .exit)) ≡ planned (length (now (work .entry))) (planOf 16384 1024 old new (imageRuns image (now (mem .entry))) (runsIn entries (now (recorded .entry))) (take dirty (now (numbers .entry)))) ⌝ }
 {
-    let count = runs::copy_image(work, mem, image);
+    let count = image_runs::copy_image(work, mem, image);
     plan_on(work, count, old, new, recorded, entries, numbers, dirty)
 }
 

@@ -10,11 +10,11 @@ use borrow.Rule.Slice.PartMut.{putMid}
 use borrow.Author.Tests.{le-ltb}
 use Rattle.memory.specs.Bytes.{zeros, overwrite}
 use Rattle.memory.specs.Laws.{length-zeros, zeros-at, length-overwrite, overwrite-join, overwrite-all, overwrite-mid, overwrite-more, take-overwrite, part-back, part-filled}
-use Rattle.meta.specs.Fnv.{fold, fold-join, fold-nil}
+use Rattle.fnv.specs.Fnv.{fold, fold-join, fold-nil}
 use Rattle.meta.specs.Runs.{numbersOf}
-use Rattle.meta.specs.Words.{wordAt, wordAt-drop, wordsIn-at}
+use Rattle.words.specs.Words.{wordAt, wordAt-drop, wordsIn-at}
 use Rattle.runs.specs.FlatLaws.{numbers-runs}
-use Rattle.runs.specs.Image.{imageCount, imageNumbers, imageRuns, length-image}
+use Rattle.image_runs.specs.Image.{imageCount, imageNumbers, imageRuns, length-image}
 use Rattle.update.specs.declared.Image.{Image}
 use Rattle.update.specs.Lists.{tabulateFrom}
 use Rattle.update.specs.ListLaws.{tabulateFrom-at, length-tabulateFrom}

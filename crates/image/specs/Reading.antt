@@ -4,7 +4,7 @@ use Prim.Native.Nat.{ℕ}
 use Rattle.meta.specs.declared.superblock.Superblock.{Superblock}
 use Rattle.meta.specs.Runs.{numbersOf}
 use Rattle.meta.specs.Block.{seal, storeIn}
-use Rattle.runs.specs.Image.{imageRuns}
+use Rattle.image_runs.specs.Image.{imageRuns}
 use Rattle.update.specs.declared.Image.{Image}
 
 abbrev pub imageOf : Superblock → Image

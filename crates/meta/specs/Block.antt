@@ -5,8 +5,8 @@ use mathlib.Core.List.{List, [], _∷_, _++_}
 use lib.ListN.{getD, take, drop}
 use Rattle.memory.specs.Bytes.{overwrite, resize}
 use Rattle.meta.specs.declared.superblock.Superblock.{Superblock}
-use Rattle.meta.specs.Words.{le, de, word, words, wordAt, wordsIn}
-use Rattle.meta.specs.Fnv.{fnv1a64}
+use Rattle.words.specs.Words.{le, de, word, words, wordAt, wordsIn}
+use Rattle.fnv.specs.Fnv.{fnv1a64}
 
 -- 01: "magic `ICSQLITE` at 0"; the eight letters read as a little-endian number
 abbrev pub magic : ℕ

@@ -8,7 +8,7 @@ use lib.Seq.{take-all}
 use Rattle.memory.specs.Bytes.{zeros, overwrite, resize}
 use Rattle.memory.specs.Laws.{length-resize, overwrite-join, overwrite-cut, overwrite-zeros, length-overwrite, below, resize-patch}
 use Rattle.meta.specs.declared.superblock.Superblock.{Superblock}
-use Rattle.meta.specs.Words.{take-words, words-append, word-halves, le, word, words, wordAt, wordsIn-at, wordAt-drop, length-wordsIn, length-word, length-words}
+use Rattle.words.specs.Words.{take-words, words-append, word-halves, le, word, words, wordAt, wordsIn-at, wordAt-drop, length-wordsIn, length-word, length-words}
 use Rattle.meta.specs.Block.{otherFields, sealedBy, fieldsIn, fieldOffset, header, headerOf, blockBytes, encode, encodedLen}
 
 -- ## The fields in bytes

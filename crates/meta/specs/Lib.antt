@@ -1,6 +1,4 @@
 pub mod Table
-pub mod Words
-pub mod Fnv
 pub mod Runs
 pub mod Block
 pub mod BlockLaws

@@ -10,7 +10,7 @@ use Rattle.meta.specs.declared.superblock.Superblock.{Superblock}
 use Rattle.meta.specs.declared.ZeroExtent.{ZeroExtent}
 use Rattle.meta.specs.declared.opening.Loaded.{Loaded}
 use Rattle.meta.specs.declared.opening.Loaded.the-variants.{Block, Refused}
-use Rattle.meta.specs.Fnv.{fnv1a64}
+use Rattle.fnv.specs.Fnv.{fnv1a64}
 use Rattle.meta.specs.Runs.{runsIn, normalized}
 use Rattle.meta.specs.Block.{magic, decode, encodedLen}
 

@@ -15,7 +15,7 @@ use Rattle.meta.specs.declared.opening.Loaded.the-variants.{Block, Refus
 use Rattle.meta.specs.Runs.{runsIn, runsIn-alike, normalized}
 use Rattle.meta.specs.Block.{magic, decode, encodedLen}
 use Rattle.meta.specs.Load.{blockRuns, checksumIn, pick, judge, load}
-use Rattle.meta.specs.Fnv.{fold, fold-join, basis, fnv1a64, fnv-is}
+use Rattle.fnv.specs.Fnv.{fold, fold-join, basis, fnv1a64, fnv-is}
 
 -- the hash with the checksum field as 0, in three parts
 pub checksum-parts : (n : ℕ) (bs z : List ℕ) → 160 ≤ n → n ≤ length bs → z ≡ zeros 8

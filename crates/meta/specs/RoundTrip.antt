@@ -12,8 +12,8 @@ use Rattle.memory.specs.Laws.{append-at, resize-in, overwrite-in, length-zeros,
 use Rattle.meta.specs.declared.superblock.Superblock.{Superblock}
 use Rattle.meta.specs.declared.opening.Loaded.the-variants.{Block}
 use Rattle.meta.specs.Table.{spelled}
-use Rattle.meta.specs.Words.{le, de, de-le, de-alike, le-de, length-le, word, words, wordAt, wordsIn, wordAt-word, wordAt-drop, wordAt-alike, length-word, Bytes, bytes-drop}
-use Rattle.meta.specs.Fnv.{step, fold, fnv1a64, basis}
+use Rattle.words.specs.Words.{le, de, de-le, de-alike, le-de, length-le, word, words, wordAt, wordsIn, wordAt-word, wordAt-drop, wordAt-alike, length-word, Bytes, bytes-drop}
+use Rattle.fnv.specs.Fnv.{step, fold, fnv1a64, basis}
 use Rattle.meta.specs.Runs.{run, runsOf, runsIn, runsIn-alike, normalized}
 use Rattle.meta.specs.Block.{magic, fieldsOf, otherFields, ofFields, fieldsIn, headerOf, header, blockBytes, encode, decode, encodedLen, prefix, sealedBy, checksumOf, seal, storeIn}
 use Rattle.meta.specs.BlockLaws.{length-fieldsIn, length-headerOf, length-encode, encodedLen-lo, encodedLen-hi, sealed-len, reseal}

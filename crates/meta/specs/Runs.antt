@@ -9,7 +9,7 @@ use lib.ListN.{drop, getD}
 use lib.Seq.{drop-drop, getD-drop}
 use borrow.Author.Tests.{lt-ltb, le-ltb}
 use Rattle.memory.specs.Laws.{split}
-use Rattle.meta.specs.Words.{wordAt, wordAt-drop, wordAt-alike}
+use Rattle.words.specs.Words.{wordAt, wordAt-drop, wordAt-alike}
 use Rattle.meta.specs.declared.ZeroExtent.{ZeroExtent}
 
 abbrev pub run : ℕ → ℕ → ZeroExtent

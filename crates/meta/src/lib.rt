@@ -1,8 +1,6 @@
 // The superblock of an image, and its checksum.
-mod fnv;
 mod opening;
 mod superblock;
-mod word;
 
 pub use fnv::FNV_OFFSET_BASIS;
 pub use fnv::fnv1a64;
@@ -12,8 +10,8 @@ pub use opening::extent_at;
 pub use opening::load;
 pub use opening::normalized;
 pub use superblock::Superblock;
-pub use word::read_word;
-pub use word::write_word;
+pub use words::read_word;
+pub use words::write_word;
 
 // Pages from `start` up to, not including, `end`, that are zeros.
 pub struct ZeroExtent {

@@ -3,16 +3,16 @@ ghost use mathlib.Core.Path.{_≡_};
 ghost use Prim.Native.Nat.{ℕ, _+_, _*_, _/_, _≤_, _<_, _-_};
 ghost use lib.ListN.{length, drop, take};
 ghost use Rattle.memory.specs.Bytes.{zeros, overwrite};
-ghost use Rattle.meta.specs.Fnv.{fnv1a64 as hashed};
-ghost use Rattle.meta.specs.Words.{wordAt};
+ghost use Rattle.fnv.specs.Fnv.{fnv1a64 as hashed};
+ghost use Rattle.words.specs.Words.{wordAt};
 ghost use Rattle.meta.specs.Runs.{run, runsIn, headNormalized};
 ghost use Rattle.meta.specs.Runs.{normalized as isNormalized};
 use crate::ZeroExtent;
-use crate::fnv::fnv1a64;
-use crate::fnv::fold_fnv1a64;
 use crate::superblock::Superblock;
-use crate::word::read_word;
 use config::Refusal;
+use fnv::fnv1a64;
+use fnv::fold_fnv1a64;
+use words::read_word;
 
 // The block, or 1, 2 or 3.
 pub enum Loaded {

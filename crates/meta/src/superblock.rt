@@ -4,10 +4,10 @@ ghost use mathlib.Core.List.{[]};
 ghost use Prim.Native.Nat.{ℕ, _+_, _*_, _≤_, _<_, min};
 ghost use lib.ListN.{length, drop};
 ghost use Rattle.memory.specs.Bytes.{zeros, overwrite};
-ghost use Rattle.meta.specs.Words.{words};
-use crate::fnv::fnv1a64;
-use crate::word::read_word;
-use crate::word::write_word;
+ghost use Rattle.words.specs.Words.{words};
+use fnv::fnv1a64;
+use words::read_word;
+use words::write_word;
 
 // The zero runs are not among the fields: they stay in the bytes, or in a list of numbers.
 pub struct Superblock {
@@ -115,6 +115,7 @@ fn least(a: u64, b: u64) -> u64
     if a < b { a } else { b }
 }
 
+// "with fresh and limits as items of `Superblock`"
 impl Superblock {
     pub const MAGIC: u64 = 0x4554_494c_5153_4349;
 

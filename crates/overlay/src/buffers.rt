@@ -6,13 +6,7 @@ ghost use Rattle.update.specs.Buffers.{shortBuffers, dirtyPage, wiped};
 ghost use Rattle.update.specs.Laid.{bufs, settle};
 
 // Whether a slice is shorter than what it holds, or the clean frames are under eight pages.
-pub(crate) fn are_short(
-    o: Overlay,
-    frames: &[u8],
-    numbers: &[u64],
-    clean: &[u8],
-    record: &[u64],
-) -> bool
+pub fn are_short(o: Overlay, frames: &[u8], numbers: &[u64], clean: &[u8], record: &[u64]) -> bool
     ensures { λ r. ⌜ r ≡ shortBuffers 16384 8 o (bufs (now (frames .entry)) (now (numbers .entry)) (now (clean .entry)) (now («record» .entry))) ⌝ }
 {
     if touch::frame_count(frames, numbers) < o.dirty {

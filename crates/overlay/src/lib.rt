@@ -3,6 +3,7 @@ mod buffers;
 mod changing;
 mod reading;
 
+pub use buffers::are_short;
 pub use buffers::dirty_page;
 pub use buffers::wipe;
 pub use changing::truncate;

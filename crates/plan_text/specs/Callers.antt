@@ -12,7 +12,7 @@ use Rattle.plan_text.specs.Grammar.{Input, WellFormed}
 use Rattle.plan_text.specs.Parse.{Reading, accepted, parse}
 use Rattle.plan_text.specs.Means.{accepted-is-well-formed, malformed-or-accepted, malformed-is-not-well-formed}
 use Rattle.plan_text.specs.Fill.{Outcome, outcome, filledBy}
-use Rattle.plan_text.specs.Tests.{length-numbers}
+use Rattle.plan_line.specs.Tests.{length-numbers}
 use Rattle.plan_text.specs.Tested.{front}
 
 -- the sizes, the counts and the buffers of an accepted text: they are those of its one meaning

@@ -6,9 +6,12 @@ use Rattle.meta.specs.Runs.{run, normalized}
 use Rattle.decimal.specs.Decimal.{decimal}
 use Rattle.decimal.specs.Text.{from, isAt, skip, isDigit, digits, number}
 use Rattle.plan_text.specs.declared.Parsed.{Parsed}
-use Rattle.plan_text.specs.declared.Answer.{Answer}
-use Rattle.plan_text.specs.Grammar.{ascii, Input, numberValue, runValue, nonEmpty, member, distinct, spell, report}
-use Rattle.plan_text.specs.Parse.{readNumber, readRun, readField, section, accepted, parseEnd, parseDirty, parseRecords, parseExtents, parseSizes, parse}
+use Rattle.plan_report.specs.declared.Answer.{Answer}
+use Rattle.plan_text.specs.Grammar.{Input, spell}
+use Rattle.plan_line.specs.Values.{ascii, numberValue, runValue, nonEmpty, member, distinct}
+use Rattle.plan_report.specs.Answers.{report}
+use Rattle.plan_text.specs.Parse.{section, accepted, parseEnd, parseDirty, parseRecords, parseExtents, parseSizes, parse}
+use Rattle.plan_line.specs.Readers.{readNumber, readRun, readField}
 
 abbrev sample : Input
 sample = record { old = 0; new = 16385; extents = []; records = run 0 2 ∷ []; dirty = 1 ∷ [] }

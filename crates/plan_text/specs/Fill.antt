@@ -1,21 +1,14 @@
 -- What the code's answers say, and what the lent buffers hold: the numbers that were read from the first place on, and behind them what was there.
-use mathlib.Core.Bool.{Bool, true, _&&_}
-use mathlib.Core.List.{List, [], _∷_}
+use mathlib.Core.List.{List}
 use Prim.Native.Nat.{ℕ, _+_, _*_}
 use lib.ListN.{length}
 use lib.Seq.{sets}
-use lib.Dec.{ltb}
 use Rattle.meta.specs.declared.ZeroExtent.{ZeroExtent}
-use Rattle.meta.specs.Runs.{run, numbersOf}
-use Rattle.decimal.specs.Text.{Got, got, wrong, from}
-use Rattle.plan_text.specs.declared.line.Line.{Line}
+use Rattle.meta.specs.Runs.{numbersOf}
+use Rattle.decimal.specs.Text.{from}
 use Rattle.plan_text.specs.declared.section.Lines.{Lines}
 use Rattle.plan_text.specs.declared.Parsed.{Parsed}
 use Rattle.plan_text.specs.Parse.{Section, ended, broken, Reading}
-
-abbrev pub lineIn : List ℕ → Line → Got ZeroExtent
-lineIn t (Line.Run a b next) = got (run a b) (from t next)
-lineIn t Line.Wrong = wrong
 
 -- ## Lines of one kind
 
@@ -36,12 +29,6 @@ fillRuns n (broken xs) out = torn (sets out (n * 2) (numbersOf xs))
 abbrev pub fillPages : ℕ → Section ℕ → List ℕ → Filled
 fillPages n (ended xs r) out = filled (n + length xs) r (sets out n xs)
 fillPages n (broken xs) out = torn (sets out n xs)
-
--- each number is above the one before it
-unfoldable pub ascending : List ℕ → Bool
-ascending [] = true
-ascending (a ∷ []) = true
-ascending (a ∷ b ∷ l) = ltb a b && ascending (b ∷ l)
 
 -- ## The whole text
 

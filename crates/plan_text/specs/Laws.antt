@@ -10,8 +10,10 @@ use Rattle.meta.specs.Runs.{run}
 use Rattle.decimal.specs.Decimal.{decimal}
 use Rattle.decimal.specs.Text.{Got, got, wrong, then, skip, number}
 use Rattle.decimal.specs.Read.{then-means, digit-low, skip-spelled, skip-means, number-means, number-spelled}
-use Rattle.plan_text.specs.Grammar.{ascii, numberValue, runValue, lines, Fits, RunFits, All}
-use Rattle.plan_text.specs.Parse.{readNumber, readRun, readField, Section, ended, broken, more, keyed, valued, section}
+use Rattle.plan_text.specs.Grammar.{Fits, RunFits, All}
+use Rattle.plan_line.specs.Values.{ascii, numberValue, runValue, lines}
+use Rattle.plan_text.specs.Parse.{Section, ended, broken, more, keyed, valued, section}
+use Rattle.plan_line.specs.Readers.{readNumber, readRun, readField}
 
 -- ## A line
 

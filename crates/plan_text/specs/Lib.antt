@@ -3,10 +3,8 @@ pub mod Parse
 pub mod Laws
 pub mod Means
 pub mod Fill
-pub mod Tests
 pub mod Turns
 pub mod Tested
 pub mod Whole
-pub mod Print
 pub mod Examples
 pub mod Callers

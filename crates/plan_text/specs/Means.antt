@@ -14,8 +14,10 @@ use Rattle.meta.specs.Runs.{normalized}
 use Rattle.decimal.specs.Text.{Got, got, wrong, from}
 use Rattle.decimal.specs.Read.{skip-other}
 use Rattle.plan_text.specs.declared.Parsed.{Parsed}
-use Rattle.plan_text.specs.Grammar.{ascii, Input, numberValue, runValue, lines, spell, Fits, RunFits, nonEmpty, distinct, Valid, WellFormed}
-use Rattle.plan_text.specs.Parse.{readNumber, readRun, readField, Section, ended, broken, section, tested, Reading, refused, accepted, onSection, onNumber, parseEnd, parseDirty, parseRecords, parseExtents, parseSizes, parse}
+use Rattle.plan_text.specs.Grammar.{Input, spell, Fits, RunFits, Valid, WellFormed}
+use Rattle.plan_line.specs.Values.{ascii, numberValue, runValue, lines, nonEmpty, distinct}
+use Rattle.plan_text.specs.Parse.{Section, ended, broken, section, tested, Reading, refused, accepted, onSection, onNumber, parseEnd, parseDirty, parseRecords, parseExtents, parseSizes, parse}
+use Rattle.plan_line.specs.Readers.{readNumber, readRun, readField}
 use Rattle.plan_text.specs.Laws.{never-ended, number-line-means, number-line-spelled, run-line-means, run-line-spelled, field-means, field-spelled, section-means, section-spelled}
 
 abbrev pub input : ℕ → ℕ → List ZeroExtent → List ZeroExtent → List ℕ → Input

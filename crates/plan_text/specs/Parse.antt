@@ -5,21 +5,12 @@ use Prim.Native.Nat.{ℕ, zero, suc}
 use lib.ListN.{length}
 use lib.Dec.{leb}
 use Rattle.meta.specs.declared.ZeroExtent.{ZeroExtent}
-use Rattle.meta.specs.Runs.{run, normalized}
-use Rattle.decimal.specs.Text.{Got, got, wrong, then, from, skip, number}
-use Rattle.plan_text.specs.Grammar.{ascii, Input, nonEmpty, distinct}
+use Rattle.meta.specs.Runs.{normalized}
+use Rattle.decimal.specs.Text.{Got, got, wrong, from, skip}
+use Rattle.plan_line.specs.Values.{ascii, nonEmpty, distinct}
+use Rattle.plan_line.specs.Readers.{readNumber, readRun, readField}
+use Rattle.plan_text.specs.Grammar.{Input}
 use Rattle.plan_text.specs.declared.Parsed.{Parsed}
-
--- ## A line
-
-unfoldable pub readNumber : List ℕ → Got ℕ
-readNumber l = then (number l) (λ n m. then (skip (ascii "\n") m) (λ _ r. got n r))
-
-unfoldable pub readRun : List ℕ → Got ZeroExtent
-readRun l = then (number l) (λ a m. then (skip (ascii "-") m) (λ _ n. then (readNumber n) (λ b r. got (run a b) r)))
-
-unfoldable pub readField : List ℕ → List ℕ → Got ℕ
-readField key l = then (skip key l) (λ _ m. readNumber m)
 
 -- ## Lines of one kind
 

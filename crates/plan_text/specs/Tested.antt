@@ -8,11 +8,13 @@ use lib.ListN.{length, take, drop}
 use lib.Seq.{sets, sets-eq, take-at}
 use Rattle.meta.specs.declared.ZeroExtent.{ZeroExtent}
 use Rattle.meta.specs.Runs.{runsOf, numbersOf, normalized}
-use Rattle.plan_text.specs.Grammar.{numberValue, runValue, Fits, RunFits, nonEmpty}
-use Rattle.plan_text.specs.Parse.{readNumber, readRun, Section, ended, broken, section, tested}
+use Rattle.plan_text.specs.Grammar.{Fits, RunFits}
+use Rattle.plan_line.specs.Values.{numberValue, runValue, nonEmpty}
+use Rattle.plan_text.specs.Parse.{Section, ended, broken, section, tested}
+use Rattle.plan_line.specs.Readers.{readNumber, readRun}
 use Rattle.plan_text.specs.Laws.{section-means, number-line-means, run-line-means}
-use Rattle.plan_text.specs.Fill.{Filled, filled, torn, fillRuns, fillPages, ascending}
-use Rattle.plan_text.specs.Tests.{runs-back, length-numbers, ascending-normalized}
+use Rattle.plan_text.specs.Fill.{Filled, filled, torn, fillRuns, fillPages}
+use Rattle.plan_line.specs.Tests.{ascending, runs-back, length-numbers, ascending-normalized}
 
 -- what a kind of lines puts into a buffer: `flat` its numbers, `size` how many they are
 pub record Kind {A : Type 0} (fill : Section A → List ℕ → Filled) (flat : List A → List ℕ) (size : ℕ → ℕ) : Type 0 where

@@ -9,7 +9,8 @@ use lib.Seq.{sets}
 use Rattle.meta.specs.declared.ZeroExtent.{ZeroExtent}
 use Rattle.meta.specs.Runs.{run, numbersOf}
 use Rattle.decimal.specs.Text.{Got, got, wrong, skip}
-use Rattle.plan_text.specs.Parse.{readNumber, readRun, Section, ended, broken, more, section}
+use Rattle.plan_text.specs.Parse.{Section, ended, broken, more, section}
+use Rattle.plan_line.specs.Readers.{readNumber, readRun}
 use Rattle.plan_text.specs.Laws.{section-none}
 use Rattle.plan_text.specs.Fill.{filled, torn, fillRuns, fillPages}
 

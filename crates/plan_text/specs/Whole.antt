@@ -9,8 +9,10 @@ use Rattle.meta.specs.declared.ZeroExtent.{ZeroExtent}
 use Rattle.meta.specs.Runs.{normalized}
 use Rattle.decimal.specs.Text.{got, wrong, from}
 use Rattle.plan_text.specs.declared.Parsed.{Parsed}
-use Rattle.plan_text.specs.Grammar.{ascii, Input, nonEmpty, distinct}
-use Rattle.plan_text.specs.Parse.{readNumber, readRun, readField, Section, ended, broken, section, tested, refused, accepted, parseEnd, parseDirty, parseRecords, parseExtents, parseSizes, parse}
+use Rattle.plan_text.specs.Grammar.{Input}
+use Rattle.plan_line.specs.Values.{ascii, nonEmpty, distinct}
+use Rattle.plan_text.specs.Parse.{Section, ended, broken, section, tested, refused, accepted, parseEnd, parseDirty, parseRecords, parseExtents, parseSizes, parse}
+use Rattle.plan_line.specs.Readers.{readNumber, readRun, readField}
 use Rattle.plan_text.specs.Fill.{filled, torn, fillRuns, fillPages, outcome, filledBy}
 use Rattle.plan_text.specs.Tested.{runs, pages, ended-means, broken-means}
 

@@ -1,16 +1,14 @@
 // The text of the program zeroplan: what it reads, and what it writes.
-mod line;
-mod report;
 mod section;
-mod tests;
 
-use crate::line::read_field;
 use crate::section::Lines;
 use crate::section::read_dirty;
 use crate::section::read_extents;
 use crate::section::read_records;
 use decimal::Numeral;
-pub use report::print;
+use plan_line::read_field;
+pub use plan_report::Answer;
+pub use plan_report::print;
 ghost use mathlib.Core.Path.{_≡_};
 ghost use mathlib.Core.List.{[]};
 ghost use Prim.Native.Nat.{_≤_};
@@ -26,13 +24,6 @@ pub enum Parsed {
         recorded: usize,
         dirty: usize,
     },
-    Malformed,
-}
-
-// An accepted plan with its page count; 31; or a text that is none.
-pub enum Answer {
-    Accepted(u64),
-    Extents,
     Malformed,
 }
 

@@ -1,21 +1,22 @@
 // The lines of one kind, into a lent buffer. What its lines say lies at the front of the buffer, also where a later line
 // is wrong; the rest of the buffer stays.
-use crate::line::Line;
-use crate::line::read_number;
-use crate::line::read_run;
-use crate::tests::are_distinct;
-use crate::tests::is_ascending;
-use crate::tests::none_is_empty;
 use decimal::Numeral;
 use decimal::Place;
 use decimal::skip;
+use plan_line::Line;
+use plan_line::are_distinct;
+use plan_line::is_ascending;
+use plan_line::none_is_empty;
+use plan_line::read_number;
+use plan_line::read_run;
 ghost use mathlib.Core.Path.{_≡_};
 ghost use Prim.Native.Nat.{_/_, _≤_};
 ghost use lib.ListN.{length};
 ghost use Rattle.decimal.specs.Text.{from};
 ghost use Rattle.meta.specs.Runs.{normalized};
-ghost use Rattle.plan_text.specs.Grammar.{ascii, nonEmpty, distinct};
-ghost use Rattle.plan_text.specs.Parse.{readNumber, readRun, section, tested};
+ghost use Rattle.plan_line.specs.Values.{ascii, nonEmpty, distinct};
+ghost use Rattle.plan_text.specs.Parse.{section, tested};
+ghost use Rattle.plan_line.specs.Readers.{readNumber, readRun};
 
 // How many lines there were, and where the text goes on; or a line was wrong, or one too many.
 pub enum Lines {

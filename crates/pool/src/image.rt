@@ -26,7 +26,7 @@ pub fn read_image(dst: &mut [u8], mem: &[u8], image: Image, offset: u64)
 {
     let page = config::page_no(offset);
     let runs = image.runs;
-    if runs::image_covers(mem, runs, page.0) {
+    if image_runs::image_covers(mem, runs, page.0) {
         memory::fill(dst);
         return;
     }

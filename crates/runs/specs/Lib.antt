@@ -3,4 +3,3 @@ pub mod Members
 pub mod SetLaws
 pub mod Flat
 pub mod FlatLaws
-pub mod Image

@@ -8,10 +8,10 @@ use Rattle.meta.specs.declared.superblock.Superblock.{Superblock}
 use Rattle.meta.specs.declared.ZeroExtent.{ZeroExtent}
 use Rattle.meta.specs.declared.opening.Loaded.{Loaded}
 use Rattle.meta.specs.Runs.{numbersOf}
-use Rattle.meta.specs.Fnv.{basis, fold}
+use Rattle.fnv.specs.Fnv.{basis, fold}
 use Rattle.meta.specs.Block.{prefix, sealedBy, checksumOf, seal, storeIn, decode as decodeBlock, fresh as freshBlock}
 use Rattle.meta.specs.Load.{load as loadBlock}
-use Rattle.runs.specs.Image.{imageRuns}
+use Rattle.image_runs.specs.Image.{imageRuns}
 
 pub record Codec : Type 0 where
   -- the checksum of the block with these runs

@@ -7,7 +7,7 @@ use lib.ListN.{length, getD}
 use Rattle.meta.specs.declared.superblock.Superblock.{Superblock}
 use Rattle.meta.specs.declared.ZeroExtent.{ZeroExtent}
 use Rattle.meta.specs.declared.opening.Loaded.the-variants.{Block}
-use Rattle.meta.specs.Words.{Bytes}
+use Rattle.words.specs.Words.{Bytes}
 use Rattle.meta.specs.Runs.{normalized}
 use Rattle.update.specs.PageLaws.{EndsBy}
 use Rattle.store.specs.Codec.{Codec, stored}

@@ -18,7 +18,7 @@ use Rattle.memory.specs.declared.Growth.{Growth}
 use Rattle.meta.specs.declared.superblock.Superblock.{Superblock}
 use Rattle.meta.specs.declared.opening.Loaded.{Loaded}
 use Rattle.meta.specs.declared.opening.Loaded.the-variants.{Block, Refused as NotLoaded}
-use Rattle.meta.specs.Words.{Bytes}
+use Rattle.words.specs.Words.{Bytes}
 use Rattle.meta.specs.Runs.{normalized, normalized-nil}
 use Rattle.update.specs.ListLaws.{clash, tests}
 use Rattle.store.specs.Codec.{Codec, sealed, stored}

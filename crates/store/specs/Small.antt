@@ -17,7 +17,7 @@ use Rattle.meta.specs.declared.superblock.Superblock.{Superblock}
 use Rattle.meta.specs.declared.ZeroExtent.{ZeroExtent}
 use Rattle.meta.specs.declared.opening.Loaded.{Loaded}
 use Rattle.meta.specs.declared.opening.Loaded.the-variants.{Block, Refused}
-use Rattle.meta.specs.Words.{Bytes}
+use Rattle.words.specs.Words.{Bytes}
 use Rattle.meta.specs.Runs.{run, runsOf, numbersOf, normalized}
 use Rattle.meta.specs.Block.{magic, fieldsOf, otherFields, ofFields, sealedBy}
 use Rattle.meta.specs.Load.{pick}

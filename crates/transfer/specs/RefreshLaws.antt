@@ -16,7 +16,7 @@ use Rattle.memory.specs.Growth.{growTo, required, stable, pick, outcome, Outcom
 use Rattle.memory.specs.declared.Growth.{Growth}
 use Rattle.memory.specs.declared.Growth.the-variants.{Grown, Refused as NotGrown}
 use Rattle.meta.specs.declared.superblock.Superblock.{Superblock}
-use Rattle.meta.specs.Fnv.{basis, fold}
+use Rattle.fnv.specs.Fnv.{basis, fold}
 use Rattle.image.specs.Reading.{imageOf}
 use Rattle.update.specs.Lists.{tabulateFrom}
 use Rattle.update.specs.Image.{imageIn}

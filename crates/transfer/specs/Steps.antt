@@ -9,7 +9,7 @@ use Rattle.memory.specs.Growth.{growTo}
 use Rattle.memory.specs.declared.Growth.{Growth}
 use Rattle.memory.specs.declared.Growth.the-variants.{Grown, Refused as NotGrown}
 use Rattle.meta.specs.declared.superblock.Superblock.{Superblock}
-use Rattle.meta.specs.Fnv.{basis, fold}
+use Rattle.fnv.specs.Fnv.{basis, fold}
 use Rattle.image.specs.Reading.{imageOf, resealed, restored}
 use Rattle.update.specs.Lists.{tabulateFrom}
 use Rattle.update.specs.Image.{imageIn}

@@ -16,7 +16,7 @@ use Rattle.memory.specs.Growth.{growTo}
 use Rattle.memory.specs.declared.Growth.{Growth}
 use Rattle.memory.specs.declared.Growth.the-variants.{Grown, Refused as NotGrown}
 use Rattle.meta.specs.declared.superblock.Superblock.{Superblock}
-use Rattle.meta.specs.Fnv.{basis, fold, fnv1a64}
+use Rattle.fnv.specs.Fnv.{basis, fold, fnv1a64}
 use Rattle.meta.specs.Block.{seal, storeIn}
 use Rattle.image.specs.Reading.{imageOf, resealed, restored}
 use Rattle.update.specs.Lists.{tabulateFrom}

@@ -9,7 +9,7 @@ ghost use mathlib.Core.Path.{_≡_};
 ghost use mathlib.Core.List.{[]};
 ghost use Prim.Native.Nat.{_+_, _≤_};
 ghost use lib.ListN.{length, take, drop};
-ghost use Rattle.meta.specs.Fnv.{fnv1a64};
+ghost use Rattle.fnv.specs.Fnv.{fnv1a64};
 ghost use Rattle.store.specs.Calls.{importBegin, importChunk, importFinish, importCancel};
 ghost use Rattle.transfer.specs.OnMemory.{OnMemory};
 ghost use Rattle.transfer.specs.Steps.{stepOut, chunkReach, chunkTo};

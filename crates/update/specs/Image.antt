@@ -7,7 +7,7 @@ use lib.ListN.{getD, take, drop}
 use Rattle.memory.specs.Bytes.{zeros, resize}
 use Rattle.meta.specs.declared.ZeroExtent.{ZeroExtent}
 use Rattle.runs.specs.Sets.{covers}
-use Rattle.runs.specs.Image.{imageRuns}
+use Rattle.image_runs.specs.Image.{imageRuns}
 use Rattle.update.specs.declared.Image.{Image}
 use Rattle.update.specs.Lists.{tabulate}
 

@@ -12,7 +12,7 @@ use borrow.Author.Tests.{lt-ltb, le-ltb}
 use Rattle.config.specs.Pages.{page-at}
 use Rattle.memory.specs.Laws.{split, below, length-zeros, zeros-at, length-resize, resize-in}
 use Rattle.runs.specs.Sets.{covers}
-use Rattle.runs.specs.Image.{imageRuns}
+use Rattle.image_runs.specs.Image.{imageRuns}
 use Rattle.update.specs.declared.Image.{Image}
 use Rattle.update.specs.Lists.{tabulateFrom}
 use Rattle.update.specs.ListLaws.{tabulate-at, length-tabulate, tabulateFrom-at, length-tabulateFrom}

@@ -4,9 +4,10 @@ use mathlib.Core.List.{List, []}
 use Rattle.config.specs.Pages.{count}
 use Rattle.extents.specs.Plan.{plan, tooMany, kept}
 use Rattle.extents.specs.Plan.{Answer as Planned}
-use Rattle.plan_text.specs.declared.Answer.{Answer}
+use Rattle.plan_report.specs.declared.Answer.{Answer}
 use Rattle.plan_text.specs.declared.Parsed.{Parsed}
-use Rattle.plan_text.specs.Grammar.{Input, report}
+use Rattle.plan_text.specs.Grammar.{Input}
+use Rattle.plan_report.specs.Answers.{report}
 use Rattle.plan_text.specs.Parse.{Reading, parse}
 
 abbrev pub byPlan : ℕ → Planned → List ℕ

@@ -16,11 +16,12 @@ use Rattle.extents.specs.declared.Planned.the-variants.{Runs, Refused}
 use Rattle.extents.specs.Plan.{plan, tooMany, kept}
 use Rattle.extents.specs.Plan.{Answer as Planned}
 use Rattle.extents.specs.PlanLaws.{plan-most}
-use Rattle.plan_text.specs.Print.{report-length}
+use Rattle.plan_report.specs.Print.{report-length}
 use Rattle.extents.specs.Outcome.{outcome, planned, Outcome}
-use Rattle.plan_text.specs.declared.Answer.{Answer}
+use Rattle.plan_report.specs.declared.Answer.{Answer}
 use Rattle.plan_text.specs.declared.Parsed.{Parsed}
-use Rattle.plan_text.specs.Grammar.{Input, report, Valid}
+use Rattle.plan_text.specs.Grammar.{Input, Valid}
+use Rattle.plan_report.specs.Answers.{report}
 use Rattle.plan_text.specs.Parse.{Reading, parse, accepted}
 use Rattle.plan_text.specs.Means.{accepted-is-well-formed, malformed-or-accepted}
 use Rattle.plan_text.specs.Fill.{filledBy}

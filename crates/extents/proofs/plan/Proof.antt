@@ -5,7 +5,7 @@ use Rattle.runs.specs.Sets.{maximal}
 use Rattle.runs.specs.SetLaws.{maximal-normalized, maximal-length}
 use Rattle.runs.specs.Flat.{runsIn}
 use Rattle.runs.specs.FlatLaws.{laid-count, laid-held}
-use Rattle.runs.specs.Image.{imageRuns, image-few}
+use Rattle.image_runs.specs.Image.{imageRuns, image-few}
 use Rattle.extents.specs.PlanLaws.{plan-image}
 use borrow.Author.Needs.{needs}
 use Rattle.extents.proofs.plan.Statement.{statement}

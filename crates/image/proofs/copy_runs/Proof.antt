@@ -7,7 +7,7 @@ use lib.ListN.{length, take, set}
 use borrow.Author.Needs.{needs}
 use Rattle.memory.specs.Bytes.{overwrite}
 use Rattle.memory.specs.Laws.{overwrite-nil}
-use Rattle.runs.specs.Image.{imageCount, imageNumbers, image-most}
+use Rattle.image_runs.specs.Image.{imageCount, imageNumbers, image-most}
 use Rattle.image.specs.ImageReads.{count-none, count-is, numbers-none, numbers-more, numbers-all}
 use Rattle.image.proofs.copy_runs.Statement.{statement}
 use Rattle.image.proofs.copy_runs.Tie as tie

@@ -6,7 +6,7 @@ use mathlib.Core.List.{List, _++_}
 use lib.ListN.{length, take, drop, length-append, length-take, length-drop}
 use lib.Seq.{take-append-seam}
 use borrow.Author.Needs.{needs}
-use Rattle.meta.specs.Fnv.{fold}
+use Rattle.fnv.specs.Fnv.{fold}
 use Rattle.update.specs.Lists.{tabulateFrom}
 use Rattle.update.specs.Image.{imageIn}
 use Rattle.image.specs.ImageReads.{fold-more, fold-last}

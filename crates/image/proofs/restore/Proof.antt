@@ -7,7 +7,7 @@ use lib.ListN.{length, take, length-take}
 use Rattle.meta.specs.Runs.{numbersOf}
 use Rattle.meta.specs.Block.{seal, storeIn}
 use Rattle.meta.specs.Stored.{outcome}
-use Rattle.runs.specs.Image.{imageRuns, image-most}
+use Rattle.image_runs.specs.Image.{imageRuns, image-most}
 use Rattle.image.specs.Reading.{resealed, restored}
 use Rattle.image.specs.ImageReads.{numbers-image}
 use borrow.Author.Needs.{needs}

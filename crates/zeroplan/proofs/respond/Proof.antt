@@ -14,11 +14,11 @@ use Rattle.extents.specs.PlanLaws.{plan-most}
 use Rattle.extents.specs.Outcome.{outcome, planned}
 use Rattle.zeroplan.specs.ReplyLaws.{lengths, too-many, enough, Kept, runs-shown, reply-extents, reply-runs, Said, said, unread}
 use Rattle.decimal.specs.Write.{write}
-use Rattle.plan_text.specs.declared.Answer.{Answer}
+use Rattle.plan_report.specs.declared.Answer.{Answer}
 use Rattle.plan_text.specs.declared.Parsed.{Parsed}
-use Rattle.plan_text.specs.Grammar.{report}
+use Rattle.plan_report.specs.Answers.{report}
 use Rattle.plan_text.specs.Parse.{parse}
-use Rattle.plan_text.specs.Print.{printed, printed-room}
+use Rattle.plan_report.specs.Print.{printed, printed-room}
 use Rattle.plan_text.specs.Fill.{filledBy, outcome as read}
 use Rattle.zeroplan.specs.Reply.{reply}
 use Rattle.zeroplan.proofs.respond.Statement.{statement}

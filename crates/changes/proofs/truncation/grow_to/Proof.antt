@@ -3,7 +3,7 @@ use mathlib.Core.Path.{sym, ap, _∙_}
 use native.Mathlib.Omega.{arith}
 use Rattle.update.specs.declared.Verdict.{Verdict}
 use Rattle.update.specs.Laid.{laid, bufs}
-use Rattle.changes.specs.GrowLaws.{rests-same, grows-accepted, grows-refused}
+use Rattle.growth.specs.GrowLaws.{rests-same, grows-accepted, grows-refused}
 use borrow.Author.Needs.{needs}
 use Rattle.changes.proofs.truncation.grow_to.Statement.{statement}
 use Rattle.changes.proofs.truncation.grow_to.Tie as tie

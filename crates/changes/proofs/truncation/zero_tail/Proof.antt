@@ -1,7 +1,7 @@
 -- `changes::truncation::zero_tail` meets its contract.
 use mathlib.Core.Path.{sym, _∙_}
 use native.Mathlib.Omega.{arith}
-use Rattle.changes.specs.GrowLaws.{tailed-none, tailed-touch}
+use Rattle.growth.specs.GrowLaws.{tailed-none, tailed-touch}
 use borrow.Author.Needs.{needs}
 use Rattle.changes.proofs.truncation.zero_tail.Statement.{statement}
 use Rattle.changes.proofs.truncation.zero_tail.Tie as tie

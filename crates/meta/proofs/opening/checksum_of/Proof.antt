@@ -5,7 +5,7 @@ use native.Mathlib.Omega.{arith}
 use lib.ListN.{take, length-take}
 use borrow.Author.Needs.{needs}
 use Rattle.memory.specs.Bytes.{zeros}
-use Rattle.meta.specs.Fnv.{fnv-is}
+use Rattle.fnv.specs.Fnv.{fnv-is}
 use Rattle.meta.specs.LoadLaws.{checksum-parts}
 use Rattle.meta.proofs.opening.checksum_of.Statement.{statement}
 use Rattle.meta.proofs.opening.checksum_of.Tie as tie

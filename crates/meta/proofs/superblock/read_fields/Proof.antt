@@ -7,7 +7,7 @@ use lib.Seq.{ext-getD, getD-set-same, getD-set-other}
 use borrow.Author.Needs.{needs}
 use borrow.Author.Count.{below-more}
 use Rattle.meta.specs.BlockLaws.{length-fieldsIn, fieldsIn-at}
-use Rattle.meta.specs.Words.{wordAt}
+use Rattle.words.specs.Words.{wordAt}
 use Rattle.meta.specs.Block.{fieldsIn, fieldOffset, offset-is}
 use Rattle.meta.proofs.superblock.read_fields.Statement.{statement}
 use Rattle.meta.proofs.superblock.read_fields.Tie as tie

@@ -8,7 +8,7 @@ use borrow.Author.Needs.{needs}
 use Rattle.meta.specs.Block.{offset-is}
 use Rattle.memory.specs.Bytes.{overwrite}
 use Rattle.memory.specs.Laws.{overwrite-nil}
-use Rattle.meta.specs.Words.{words, words-more}
+use Rattle.words.specs.Words.{words, words-more}
 use Rattle.meta.proofs.superblock.write_fields.Statement.{statement}
 use Rattle.meta.proofs.superblock.write_fields.Tie as tie
 

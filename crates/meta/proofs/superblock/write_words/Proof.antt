@@ -7,7 +7,7 @@ use lib.Seq.{take-all}
 use borrow.Author.Needs.{needs}
 use Rattle.memory.specs.Bytes.{overwrite}
 use Rattle.memory.specs.Laws.{overwrite-nil}
-use Rattle.meta.specs.Words.{words, words-more}
+use Rattle.words.specs.Words.{words, words-more}
 use Rattle.meta.proofs.superblock.write_words.Statement.{statement}
 use Rattle.meta.proofs.superblock.write_words.Tie as tie
 

@@ -5,8 +5,9 @@ use lib.ListN.{length}
 use lib.Seq.{length-take-le}
 use Rattle.decimal.specs.Text.{from}
 use Rattle.plan_text.specs.declared.section.Lines.{Lines}
-use Rattle.plan_text.specs.Grammar.{ascii, distinct}
-use Rattle.plan_text.specs.Parse.{readNumber, section}
+use Rattle.plan_line.specs.Values.{ascii, distinct}
+use Rattle.plan_text.specs.Parse.{section}
+use Rattle.plan_line.specs.Readers.{readNumber}
 use Rattle.plan_text.specs.Fill.{linesIn}
 use Rattle.plan_text.specs.Tested.{pages, pages-short, used-fits, test-passed, test-failed, broken-before}
 use borrow.Author.Needs.{needs}

@@ -7,7 +7,8 @@ use native.Mathlib.Omega.{arith}
 use lib.ListN.{length, length-set}
 use Rattle.decimal.specs.Text.{from}
 use Rattle.decimal.specs.Places.{placeIn, numeralIn}
-use Rattle.plan_text.specs.Parse.{readNumber, section}
+use Rattle.plan_text.specs.Parse.{section}
+use Rattle.plan_line.specs.Readers.{readNumber}
 use Rattle.plan_text.specs.Fill.{fillPages}
 use Rattle.plan_text.specs.Turns.{pages-end, pages-full, pages-bad, pages-go}
 use Rattle.plan_text.proofs.section.read_pages.Statement.{statement}

@@ -6,8 +6,9 @@ use lib.ListN.{length}
 use lib.Seq.{length-take-le}
 use Rattle.decimal.specs.Text.{from}
 use Rattle.plan_text.specs.declared.section.Lines.{Lines}
-use Rattle.plan_text.specs.Grammar.{ascii, nonEmpty}
-use Rattle.plan_text.specs.Parse.{readRun, section}
+use Rattle.plan_line.specs.Values.{ascii, nonEmpty}
+use Rattle.plan_text.specs.Parse.{section}
+use Rattle.plan_line.specs.Readers.{readRun}
 use Rattle.plan_text.specs.Fill.{linesIn}
 use Rattle.plan_text.specs.Tested.{runs, runs-short, used-fits, test-passed, test-failed, broken-before, non-empty-test}
 use Rattle.meta.specs.Runs.{runsOf}

@@ -7,8 +7,10 @@ use native.Mathlib.Omega.{arith}
 use lib.ListN.{length, length-set}
 use Rattle.decimal.specs.Text.{from}
 use Rattle.decimal.specs.Places.{placeIn}
-use Rattle.plan_text.specs.Parse.{readRun, section}
-use Rattle.plan_text.specs.Fill.{fillRuns, lineIn}
+use Rattle.plan_text.specs.Parse.{section}
+use Rattle.plan_line.specs.Readers.{readRun}
+use Rattle.plan_text.specs.Fill.{fillRuns}
+use Rattle.plan_line.specs.Readers.{lineIn}
 use Rattle.plan_text.specs.Turns.{runs-end, runs-full, runs-bad, runs-go}
 use Rattle.plan_text.proofs.section.read_runs.Statement.{statement}
 use Rattle.plan_text.proofs.section.read_runs.Tie as tie

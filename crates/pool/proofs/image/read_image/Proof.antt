@@ -8,7 +8,7 @@ use lib.ListN.{length, take, drop, getD, length-take, length-drop}
 use lib.Seq.{getD-take, getD-drop, ext-getD}
 use Rattle.memory.specs.Bytes.{zeros, resize}
 use Rattle.runs.specs.Sets.{covers}
-use Rattle.runs.specs.Image.{imageRuns}
+use Rattle.image_runs.specs.Image.{imageRuns}
 use Rattle.update.specs.declared.Image.{Image}
 use Rattle.update.specs.Image.{imagePart}
 use borrow.Author.Needs.{needs}

@@ -2,7 +2,7 @@ use mathlib.Core.Path.{_≡_, refl, ap, _∙_}
 use Prim.Native.Nat.{ℕ, _+_, _-_}
 use native.Mathlib.Omega.{arith}
 use lib.ListN.{take, drop}
-use Rattle.meta.specs.Fnv.{fnv1a64}
+use Rattle.fnv.specs.Fnv.{fnv1a64}
 use Rattle.transfer.specs.RefreshLaws.{bytes-none, bytes-end}
 use borrow.Author.Needs.{needs}
 use Rattle.transfer.proofs.import.sum_of.Statement.{statement}

@@ -2,7 +2,7 @@ use mathlib.Core.Path.{_≡_, ap, _∙_}
 use Prim.Native.Nat.{ℕ, _-_}
 use lib.Dec.{eqb}
 use Rattle.meta.specs.declared.superblock.Superblock.{Superblock}
-use Rattle.meta.specs.Fnv.{fold}
+use Rattle.fnv.specs.Fnv.{fold}
 use Rattle.image.specs.Reading.{imageOf}
 use Rattle.update.specs.declared.Image.{Image}
 use Rattle.update.specs.Lists.{tabulateFrom}

@@ -1,7 +1,7 @@
 use mathlib.Core.Path.{_≡_, sym, ap, _∙_}
 use Prim.Native.Nat.{ℕ, _-_}
 use native.Mathlib.Omega.{arith}
-use Rattle.meta.specs.Fnv.{basis, fold}
+use Rattle.fnv.specs.Fnv.{basis, fold}
 use Rattle.image.specs.Reading.{imageOf}
 use Rattle.update.specs.declared.Image.{Image}
 use Rattle.update.specs.Lists.{tabulateFrom}

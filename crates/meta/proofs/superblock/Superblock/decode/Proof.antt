@@ -4,7 +4,7 @@ use Prim.Native.Nat.{_%_, _/_}
 use native.Mathlib.Omega.{arith}
 use lib.ListN.{drop}
 use borrow.Author.Needs.{needs}
-use Rattle.meta.specs.Words.{de, Bytes, de-halves}
+use Rattle.words.specs.Words.{de, Bytes, de-halves}
 use Rattle.meta.specs.Block.{ofFields, decode as decoded}
 use Rattle.meta.proofs.superblock.Superblock.decode.Statement.{statement}
 use Rattle.meta.proofs.superblock.Superblock.decode.Tie as tie

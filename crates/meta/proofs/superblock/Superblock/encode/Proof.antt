@@ -5,7 +5,7 @@ use Prim.Native.Nat.{ℕ}
 use native.Mathlib.Omega.{arith}
 use lib.ListN.{length, length-take}
 use borrow.Author.Needs.{needs}
-use Rattle.meta.specs.Words.{words}
+use Rattle.words.specs.Words.{words}
 use Rattle.meta.specs.Block.{headerOf, header, blockBytes}
 use Rattle.memory.specs.Bytes.{overwrite}
 use Rattle.meta.specs.BlockLaws.{encode-parts}

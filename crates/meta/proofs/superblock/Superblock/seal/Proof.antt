@@ -7,7 +7,7 @@ use lib.ListN.{length, take, length-take}
 use borrow.Author.Needs.{needs}
 use Rattle.memory.specs.Laws.{length-zeros}
 use Rattle.meta.specs.declared.superblock.Superblock.{Superblock}
-use Rattle.meta.specs.Fnv.{fnv1a64 as hashed}
+use Rattle.fnv.specs.Fnv.{fnv1a64 as hashed}
 use Rattle.meta.specs.Block.{sealedBy, checksumOf, prefix, encodedLen, encode as encoded, seal as sealed}
 use Rattle.meta.specs.BlockLaws.{encode-is, length-encode, encodedLen-hi, reseal}
 use Rattle.meta.specs.Stored.{outcome}
