@@ -1,0 +1,44 @@
+// The begin of an update, and the size of the file that reads see.
+use crate::lending;
+use config::Refusal;
+use store::Answer;
+use store::State;
+use store::Step;
+use update::Overlay;
+ghost use Rattle.store.specs.declared.Answer.the-variants.{Size};
+ghost use Rattle.store.specs.Calls.{begin, fileSize};
+ghost use Rattle.blob.specs.Lending.{Alone};
+
+// "Beginning an update tests 10, then 13." A budget of pages and bytes counts where it is `limited`.
+pub fn begin_update(s: State, limited: bool, max_pages: u64, max_bytes: u64) -> Step
+    ensures { λ r. ⌜ Alone s (begin limited «max_pages» «max_bytes») (r .state) (r .answer) ⌝ }
+{
+    let count = s.count;
+    let block = s.block;
+    if blocks::is_importing(block) {
+        return lending::refuse(s, Refusal::ImportAlreadyStarted);
+    }
+    if s.updating {
+        return lending::refuse(s, Refusal::UpdateBegunTwice);
+    }
+    let budget = lending::budget_of(limited, max_pages, max_bytes);
+    Step {
+        state: State {
+            count,
+            block,
+            updating: true,
+            overlay: Overlay::new(block.db_size, budget),
+        },
+        answer: Answer::Size(block.db_size),
+    }
+}
+
+// Of the update if one is open, else of the image.
+pub fn file_size(s: State) -> u64
+    ensures { λ r. ⌜ Alone s fileSize s (Size r) ⌝ }
+{
+    if s.updating {
+        return s.overlay.size;
+    }
+    s.block.db_size
+}
