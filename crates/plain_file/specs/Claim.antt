@@ -7,7 +7,7 @@ use lib.Dec.{leb, eqb}
 use lib.ListN.{length, take, drop, getD}
 use Rattle.config.specs.declared.refusal.Refusal.the-variants.{BufferTooShort}
 use Rattle.memory.specs.Bytes.{resize}
-use Rattle.meta.specs.Words.{Bytes}
+use Rattle.words.specs.Words.{Bytes}
 use Rattle.update.specs.declared.Overlay.{Overlay}
 use Rattle.update.specs.Buffers.{Buffers, cached}
 use Rattle.store.specs.declared.State.{State}

@@ -5,4 +5,5 @@ pub mod Ends
 pub mod Turns
 pub mod IdleTurns
 pub mod Demand3
+pub mod Code
 pub mod Wrong

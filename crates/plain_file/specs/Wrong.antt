@@ -14,7 +14,7 @@ use Rattle.memory.specs.Bytes.{zeros, overwrite, resize}
 use Rattle.memory.specs.Laws.{split}
 use Rattle.memory.specs.Growth.{growTo as growMemory, required as requiredPages}
 use Rattle.meta.specs.declared.superblock.Superblock.{Superblock}
-use Rattle.meta.specs.Words.{Bytes}
+use Rattle.words.specs.Words.{Bytes}
 use Rattle.meta.specs.Runs.{normalized}
 use Rattle.meta.specs.Block.{magic, ofFields}
 use Rattle.runs.specs.Sets.{covers, within, merge, insert, add, around, remove}
