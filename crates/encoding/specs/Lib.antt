@@ -1,0 +1,2 @@
+pub mod StateBytes
+pub mod Called
