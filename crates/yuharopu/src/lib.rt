@@ -1,9 +1,11 @@
-// The C functions. Each takes any argument; a slice passes as a pointer and a number of elements.
-mod overlay_calls;
+// The C functions: a host "calls the library through C functions on numbers and byte slices". Each takes any argument; a slice passes as a
+// pointer and a number of elements.
+mod transfer_calls;
+mod update_calls;
 
 ghost use mathlib.Core.Path.{_≡_};
 ghost use Rattle.config.specs.Pages.{count};
-ghost use Rattle.meta.specs.Fnv.{fold, fnv1a64};
+ghost use Rattle.fnv.specs.Fnv.{fold, fnv1a64};
 ghost use Rattle.yuharopu.specs.Exports.{answer, grew, plans, loadFields, freshFields, storeFields, growPages, planRuns};
 use config::StablePages;
 use extents::Planned;

@@ -1,0 +1,53 @@
+-- `transfer_calls::yuharopu_checksum` meets its contract.
+use Rattle.store.specs.Calls.{checksum}
+use Rattle.transfer.specs.OnMemory.{lent}
+use Rattle.encoding.specs.Called.{ask-done, ask-short}
+use Rattle.yuharopu.specs.StoreCalls.{enough, is-long, is-short, lengths}
+use borrow.Author.Needs.{needs}
+use Rattle.yuharopu.proofs.transfer_calls.yuharopu_checksum.Statement.{statement}
+use Rattle.yuharopu.proofs.transfer_calls.yuharopu_checksum.Tie as tie
+
+are-short-requires : tie.Need-are-short-requires
+are-short-requires c κs = search needs
+
+same-length : tie.Need-same-length
+same-length c = search needs
+
+returns : tie.Need-returns
+returns c =
+    let a = c .before .before .before .before .before .before .args in
+    λ b w. ask-short (a .state .now) (a .answer .now) (lent (a .mem .now) b w) (checksum) (is-short (a .state .now) (a .answer .now) _ (c .before .are-short .ensures) (c .if1 .taken))
+
+decode-requires : tie.Need-decode-requires
+decode-requires c κs =
+    let a = c .before .before .before .before .before .before .args in
+    enough (a .state .now) (a .answer .now) _ (c .before .are-short .ensures) (c .if1 .left)
+
+checksum-requires : tie.Need-checksum-requires
+checksum-requires c κs = search needs
+
+tell-requires : tie.Need-tell-requires
+tell-requires c κs =
+    let a = c .before .before .before .before .before .before .before .before .before .args in
+    lengths (a .state .now) (a .answer .now) _ (c .before .before .before .before .are-short .ensures) (c .before .before .before .if1 .left) .1
+
+same-length-2 : tie.Need-same-length-2
+same-length-2 c = search needs
+
+returns-2 : tie.Need-returns-2
+returns-2 c =
+    let a = c .before .before .before .before .before .before .before .before .before .before .before .before .args in
+    λ b w. ask-done (a .state .now) (a .answer .now) (is-long (a .state .now) (a .answer .now) _ (c .before .before .before .before .before .before .before .are-short .ensures) (c .before .before .before .before .before .before .if1 .left)) _ _ _ (checksum) _ (c .before .before .before .before .before .decode .ensures) (c .before .before .before .before .checksum .ensures b w) (c .before .before .tell .ensures (a .state .now))
+
+pub yuharopu-checksum-spec : {M : Type 1} → statement M
+yuharopu-checksum-spec =
+    tie.close
+    (tie.spec
+    are-short-requires
+    same-length
+    returns
+    decode-requires
+    checksum-requires
+    tell-requires
+    same-length-2
+    returns-2)
