@@ -34,9 +34,6 @@ pub fn grow_bytes(_bytes: &[u8], _ceiling: u64, _end: u64) -> Result<Vec<u8>, Re
 /// No value of it can be made.
 pub struct Store(Infallible);
 
-/// Nor of this.
-pub struct Update(Infallible);
-
 macro_rules! methods {
     ($(fn $name:ident($($argument:ident: $type:ty),*) -> $answer:ty;)*) => {
         impl Store {
@@ -47,6 +44,9 @@ macro_rules! methods {
                 match self.0 {}
             }
             pub fn snapshot(&self) -> Vec<u8> {
+                match self.0 {}
+            }
+            pub fn difference(&self, _bytes: &[u8]) -> Option<usize> {
                 match self.0 {}
             }
             $(pub fn $name(&mut self $(, $argument: $type)*) -> $answer {
@@ -63,7 +63,6 @@ methods! {
     fn write_stats() -> WriteStats;
     fn dirty_page_count() -> u64;
     fn take_draft() -> Option<Draft>;
-    fn take_update() -> Option<Update>;
     fn read_at(_offset: u64, _dst: &mut [u8]) -> Result<bool, Refusal>;
     fn write_at(_offset: u64, _bytes: &[u8]) -> Result<(), Refusal>;
     fn truncate(_size: u64) -> Result<(), Refusal>;
@@ -78,44 +77,4 @@ methods! {
     fn checksum() -> Result<u64, Refusal>;
     fn refresh_checksum() -> Result<u64, Refusal>;
     fn refresh_checksum_chunk(_max_bytes: u64) -> Result<Refresh, Refusal>;
-}
-
-impl Update {
-    pub fn size(&self) -> u64 {
-        match self.0 {}
-    }
-
-    pub fn is_empty(&self) -> bool {
-        match self.0 {}
-    }
-
-    pub fn dirty_pages(&self) -> &[(u64, Vec<u8>)] {
-        match self.0 {}
-    }
-
-    pub fn record(&self) -> Vec<(u64, u64)> {
-        match self.0 {}
-    }
-
-    pub fn read_at(
-        &mut self,
-        _store: &mut Store,
-        _offset: u64,
-        _dst: &mut [u8],
-    ) -> Result<bool, Refusal> {
-        match self.0 {}
-    }
-
-    pub fn write_at(
-        &mut self,
-        _store: &mut Store,
-        _offset: u64,
-        _bytes: &[u8],
-    ) -> Result<(), Refusal> {
-        match self.0 {}
-    }
-
-    pub fn truncate(&mut self, _store: &mut Store, _size: u64) -> Result<(), Refusal> {
-        match self.0 {}
-    }
 }

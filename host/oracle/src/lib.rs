@@ -61,9 +61,9 @@ include!(concat!(env!("OUT_DIR"), "/modules.rs"));
 #[cfg(all(original, not(test)))]
 mod present;
 #[cfg(all(original, not(test)))]
-pub use present::{fnv1a64, fresh, grow, grow_bytes, load, store, Store, Update};
+pub use present::{fnv1a64, fresh, grow, grow_bytes, load, store, Store};
 
 #[cfg(not(all(original, not(test))))]
 mod absent;
 #[cfg(not(all(original, not(test))))]
-pub use absent::{fnv1a64, fresh, grow, grow_bytes, load, store, Store, Update};
+pub use absent::{fnv1a64, fresh, grow, grow_bytes, load, store, Store};

@@ -4,8 +4,6 @@ mod refusal;
 pub mod stand_in;
 mod store;
 mod superblock;
-mod update;
 
 pub use store::{grow, grow_bytes, Store};
 pub use superblock::{fnv1a64, fresh, load, store};
-pub use update::Update;

@@ -1,7 +1,7 @@
-//! Superblocks made from a recipe and an index, answered by the library and by the original, and compared; and plans of
-//! commits, from a seed or made by hand.
+//! Superblocks made from a recipe and an index, answered by the library and by the original, and compared; plans of
+//! commits, from a seed or made by hand; and lists of calls on an image.
 //!
-//! Where the original's files are not at hand, its recorded answers stand for it.
+//! Where the original's files are not at hand, its recorded answers stand for it, and models of document 01.
 
 pub mod answer;
 pub mod block;
@@ -14,7 +14,8 @@ pub mod plan_text;
 pub mod prng;
 pub mod recipe;
 pub mod recorded;
-pub mod update;
+pub mod recorded_calls;
+pub mod store;
 
 use answer::Answer;
 use recipe::Recipe;

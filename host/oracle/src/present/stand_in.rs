@@ -37,6 +37,24 @@ pub mod raw_memory {
             memory
         }
 
+        /// The first place where memory is not these bytes, which are all of it.
+        pub fn difference(&self, bytes: &[u8]) -> Option<usize> {
+            let memory = self.0.borrow();
+            assert_eq!(bytes.len() as u64, memory.count * STABLE_PAGE_SIZE);
+            let differs = |(page, part): &(u64, &[u8])| match memory.written.get(page) {
+                Some(held) => held != part,
+                None => part.iter().any(|byte| *byte != 0),
+            };
+            let (page, part) = (0..).zip(bytes.chunks(PAGE_LEN)).find(differs)?;
+            let zeros = vec![0; PAGE_LEN];
+            let held = memory.written.get(&page).unwrap_or(&zeros);
+            let at = part
+                .iter()
+                .zip(held)
+                .position(|(one, other)| one != other)?;
+            Some(page as usize * PAGE_LEN + at)
+        }
+
         fn require(&self, offset: u64, len: usize) {
             let end = u128::from(offset) + len as u128;
             let held = u128::from(self.size()) * u128::from(STABLE_PAGE_SIZE);

@@ -59,6 +59,11 @@ impl Store {
         bytes
     }
 
+    /// The first place where memory is not these bytes, which are all of it.
+    pub fn difference(&self, bytes: &[u8]) -> Option<usize> {
+        self.memory.difference(bytes)
+    }
+
     pub fn begin_update(&mut self) -> Result<u64, Refusal> {
         self.within(stable_blob::begin_update).map_err(at_begin)
     }

@@ -1,6 +1,6 @@
-//! Writes the file of recorded answers.
+//! Writes the files of recorded answers.
 
-use conformance::recorded;
+use conformance::{recorded, recorded_calls};
 
 fn main() {
     if !oracle::AVAILABLE {
@@ -9,5 +9,8 @@ fn main() {
     }
     let text = recorded::of_original();
     std::fs::write(recorded::path(), &text).expect("the file of recorded answers");
-    println!("{} lines written", text.lines().count());
+    println!("{} lines of superblocks", text.lines().count());
+    let text = recorded_calls::of_original(&recorded_calls::drawn());
+    std::fs::write(recorded_calls::path(), &text).expect("the file of recorded calls");
+    println!("{} lines of calls", text.lines().count());
 }

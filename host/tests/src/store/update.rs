@@ -1,7 +1,6 @@
 //! An update after document 01, written apart from the library: pages, record and cache as lists.
 
-use super::image::covers;
-use super::{Answer, Budget, Call, Image};
+use super::{Budget, Room, PAGE_LEN};
 use crate::plan::{Run, PAGE};
 
 const OVERFLOW: u64 = 20;
@@ -9,12 +8,35 @@ const BUDGET: u64 = 30;
 const FRAMES_FULL: u64 = 33;
 const RECORD_FULL: u64 = 34;
 const CACHE_PAGES: usize = 8;
-const PAGE_LEN: usize = PAGE as usize;
 
 pub type Page = (u64, Vec<u8>);
 
-pub struct Model<'a> {
-    image: &'a Image,
+/// The image below an update.
+pub struct View<'a> {
+    pub size: u64,
+    pub base: u64,
+    pub runs: &'a [Run],
+    pub memory: &'a [u8],
+}
+
+impl View<'_> {
+    /// "The image's page is zeros if an image run covers it, else the bytes at base + page x 16,384; past the size it is
+    /// zeros."
+    pub fn page(&self, page: u64) -> Vec<u8> {
+        let mut bytes = vec![0; PAGE_LEN];
+        let start = page * PAGE;
+        if covers(self.runs, page) || start >= self.size {
+            return bytes;
+        }
+        let len = PAGE.min(self.size - start) as usize;
+        let from = (self.base + start) as usize;
+        bytes[..len].copy_from_slice(&self.memory[from..from + len]);
+        bytes
+    }
+}
+
+pub struct Update {
+    begun: u64,
     pub size: u64,
     /// In order of first touch.
     pub dirty: Vec<Page>,
@@ -24,52 +46,42 @@ pub struct Model<'a> {
     pub cache: Vec<Page>,
     budget: Budget,
     /// 0 not passed, 1 by pages, 2 by bytes.
-    passed: u64,
-    peak: (u64, u64),
-    frames: usize,
-    entries: usize,
+    pub passed: u64,
+    pub peak: (u64, u64),
+    pub room: Room,
     /// The most frames and clean frames that were ever in use.
     pub used: (usize, usize),
 }
 
 type Tried<T> = Result<T, u64>;
 
-impl<'a> Model<'a> {
-    pub fn begin(image: &'a Image, budget: Budget, frames: usize, entries: usize) -> Self {
+impl Update {
+    pub fn begin(size: u64, budget: Budget, room: Room) -> Self {
         Self {
-            image,
-            size: image.size,
+            begun: size,
+            size,
             dirty: Vec::new(),
             record: Vec::new(),
             cache: Vec::new(),
             budget,
             passed: 0,
             peak: (0, 0),
-            frames,
-            entries,
+            room,
             used: (0, 0),
         }
     }
 
-    pub fn call(&mut self, call: &Call) -> Answer {
-        let tried = match call {
-            Call::Read { offset, len } => return self.read(*offset, *len),
-            Call::Write { offset, bytes } => self.write(*offset, bytes),
-            Call::Truncate(size) => self.truncate(*size),
-        };
-        Answer::of(tried.err().unwrap_or(0))
-    }
-
     pub fn is_empty(&self) -> bool {
-        self.size == self.image.size && self.dirty.is_empty() && self.record.is_empty()
+        self.size == self.begun && self.dirty.is_empty() && self.record.is_empty()
     }
 
-    /// The numbers of the library's state.
-    pub fn numbers(&self) -> [u64; yuharopu::OVERLAY_NUMBERS] {
-        let mut numbers = [0; yuharopu::OVERLAY_NUMBERS];
-        let (max_pages, max_bytes) = self.budget.unwrap_or((0, 0));
+    /// The update's numbers in the state.
+    pub fn numbers(&self) -> [u64; 19] {
+        let mut numbers = [0; 19];
+        // what `Library` passes where there is no budget
+        let (max_pages, max_bytes) = self.budget.unwrap_or((7, 7));
         numbers[..5].copy_from_slice(&[
-            self.image.size,
+            self.begun,
             self.size,
             self.dirty.len() as u64,
             self.record.len() as u64,
@@ -89,18 +101,19 @@ impl<'a> Model<'a> {
         numbers
     }
 
-    fn read(&mut self, offset: u64, len: usize) -> Answer {
+    /// Whether it is full, and the bytes.
+    pub fn read(&mut self, image: &View, offset: u64, len: usize) -> (bool, Vec<u8>) {
         let mut bytes = vec![0; len];
         let below = self.size.saturating_sub(offset).min(len as u64) as usize;
         for (page, within, part) in parts(offset, below) {
             let end = within + part.len();
-            bytes[part].copy_from_slice(&self.look_up(page)[within..end]);
+            bytes[part].copy_from_slice(&self.look_up(image, page)[within..end]);
         }
-        Answer::of_read(below == len, bytes)
+        (below == len, bytes)
     }
 
     /// "A read takes a page from dirty, else zero if the record covers it, else the cache, else the image."
-    fn look_up(&mut self, page: u64) -> Vec<u8> {
+    fn look_up(&mut self, image: &View, page: u64) -> Vec<u8> {
         if let Some(at) = place_of(&self.dirty, page) {
             return self.dirty[at].1.clone();
         }
@@ -113,31 +126,31 @@ impl<'a> Model<'a> {
         if self.cache.len() == CACHE_PAGES {
             self.cache.remove(0);
         }
-        self.cache.push((page, self.image.page(page)));
+        self.cache.push((page, image.page(page)));
         self.used.1 = self.used.1.max(self.cache.len());
         self.cache.last().expect("a page").1.clone()
     }
 
-    fn write(&mut self, offset: u64, bytes: &[u8]) -> Tried<()> {
+    pub fn write(&mut self, image: &View, offset: u64, bytes: &[u8]) -> Tried<()> {
         if bytes.is_empty() {
             return Ok(());
         }
         let end = offset.checked_add(bytes.len() as u64).ok_or(OVERFLOW)?;
         if end > self.size {
-            self.grow(end)?;
+            self.grow(image, end)?;
         }
         let whole = bytes.len() == PAGE_LEN && offset.is_multiple_of(PAGE);
         for (page, within, part) in parts(offset, bytes.len()) {
-            let frame = self.make_dirty(page, !whole)?;
+            let frame = self.make_dirty(image, page, !whole)?;
             frame[within..within + part.len()].copy_from_slice(&bytes[part]);
         }
         self.size = self.size.max(end);
         Ok(())
     }
 
-    fn truncate(&mut self, size: u64) -> Tried<()> {
+    pub fn truncate(&mut self, image: &View, size: u64) -> Tried<()> {
         if size > self.size {
-            self.grow(size)?;
+            self.grow(image, size)?;
         }
         self.push_run(size.div_ceil(PAGE), self.size.div_ceil(PAGE))?;
         self.size = size;
@@ -145,22 +158,22 @@ impl<'a> Model<'a> {
         self.dirty.retain(|(page, _)| *page < count);
         self.cache.retain(|(page, _)| *page < count);
         if !size.is_multiple_of(PAGE) {
-            self.make_dirty(size / PAGE, true)?[(size % PAGE) as usize..].fill(0);
+            self.make_dirty(image, size / PAGE, true)?[(size % PAGE) as usize..].fill(0);
         }
         Ok(())
     }
 
     /// The size is for the caller to set.
-    fn grow(&mut self, size: u64) -> Tried<()> {
+    fn grow(&mut self, image: &View, size: u64) -> Tried<()> {
         let old = self.size;
         self.push_run(old.div_ceil(PAGE), size.div_ceil(PAGE))?;
         if !old.is_multiple_of(PAGE) {
             let end = (old / PAGE * PAGE).checked_add(PAGE).ok_or(OVERFLOW)?;
             let end = (end.min(size) - old / PAGE * PAGE) as usize;
-            self.make_dirty(old / PAGE, true)?[(old % PAGE) as usize..end].fill(0);
+            self.make_dirty(image, old / PAGE, true)?[(old % PAGE) as usize..end].fill(0);
         }
         if !size.is_multiple_of(PAGE) && size / PAGE != old / PAGE {
-            self.make_dirty(size / PAGE, true)?[..(size % PAGE) as usize].fill(0);
+            self.make_dirty(image, size / PAGE, true)?[..(size % PAGE) as usize].fill(0);
         }
         Ok(())
     }
@@ -169,19 +182,19 @@ impl<'a> Model<'a> {
         if start >= end {
             return Ok(());
         }
-        if self.record.len() == self.entries {
+        if self.record.len() == self.room.entries {
             return Err(RECORD_FULL);
         }
         self.record.push((start, end));
         Ok(())
     }
 
-    fn make_dirty(&mut self, page: u64, load: bool) -> Tried<&mut Vec<u8>> {
+    fn make_dirty(&mut self, image: &View, page: u64, load: bool) -> Tried<&mut Vec<u8>> {
         let at = match place_of(&self.dirty, page) {
             Some(at) => at,
             None => {
                 self.admit()?;
-                let bytes = self.first_bytes(page, load);
+                let bytes = self.first_bytes(image, page, load);
                 self.dirty.push((page, bytes));
                 self.used.0 = self.used.0.max(self.dirty.len());
                 self.dirty.len() - 1
@@ -203,7 +216,7 @@ impl<'a> Model<'a> {
                 return Err(BUDGET);
             }
         }
-        if self.dirty.len() == self.frames {
+        if self.dirty.len() == self.room.frames {
             return Err(FRAMES_FULL);
         }
         if self.budget.is_some() {
@@ -213,13 +226,13 @@ impl<'a> Model<'a> {
     }
 
     /// "A new dirty page starts as zeros if covered, else as the image's page", from the cache if it is there.
-    fn first_bytes(&mut self, page: u64, load: bool) -> Vec<u8> {
+    fn first_bytes(&mut self, image: &View, page: u64, load: bool) -> Vec<u8> {
         if !load || covers(&self.record, page) {
             return vec![0; PAGE_LEN];
         }
         match place_of(&self.cache, page) {
             Some(at) => self.cache.remove(at).1,
-            None => self.image.page(page),
+            None => image.page(page),
         }
     }
 }
@@ -228,8 +241,13 @@ fn place_of(pages: &[Page], page: u64) -> Option<usize> {
     pages.iter().position(|(number, _)| *number == page)
 }
 
+pub fn covers(runs: &[Run], page: u64) -> bool {
+    runs.iter()
+        .any(|(start, end)| (*start..*end).contains(&page))
+}
+
 /// A range of the file cut at the ends of pages: page, place in it, part of the buffer.
-fn parts(offset: u64, len: usize) -> Vec<(u64, usize, std::ops::Range<usize>)> {
+pub fn parts(offset: u64, len: usize) -> Vec<(u64, usize, std::ops::Range<usize>)> {
     let mut parts = Vec::new();
     let mut done = 0;
     while done < len {
