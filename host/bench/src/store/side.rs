@@ -1,0 +1,257 @@
+//! The two sides. The library is called through the crate's raw layer, so that nothing is added to it.
+
+use super::image;
+use oracle::Store;
+use std::rc::Rc;
+use yuharopu::raw::{self, Lent};
+use yuharopu::{
+    work_numbers, ANSWER_NUMBERS, CLEAN_BYTES, PAGE_BYTES, STABLE_PAGE_BYTES, STATE_BYTES,
+};
+
+const RECORD_ENTRIES: usize = 16;
+
+/// Every call is to be accepted.
+pub trait Side {
+    fn begin(&mut self);
+    fn read(&mut self, offset: u64, dst: &mut [u8]);
+    fn write(&mut self, offset: u64, bytes: &[u8]);
+    fn commit(&mut self);
+    fn rollback(&mut self);
+    fn checksum(&mut self) -> u64;
+    fn refresh(&mut self, max_bytes: u64) -> u64;
+    fn begin_import(&mut self, total: u64, expected: u64);
+    fn import_chunk(&mut self, offset: u64, bytes: &[u8]);
+    fn finish_import(&mut self);
+    /// Back to the image at the start; an import has grown memory.
+    fn reopen(&mut self);
+}
+
+/// Begins an update and writes the first pages.
+pub fn make_dirty(side: &mut dyn Side, pages: u64) {
+    let bytes = image::bytes(PAGE_BYTES);
+    side.begin();
+    for page in 0..pages {
+        side.write(page * PAGE_BYTES as u64, &bytes);
+    }
+}
+
+/// The buffers of the library's calls, and what opening left, to go back to.
+pub struct Library {
+    opened: [u8; STATE_BYTES],
+    first_page: Vec<u8>,
+    state: [u8; STATE_BYTES],
+    mem: Vec<u8>,
+    frames: Vec<u8>,
+    numbers: Vec<u64>,
+    clean: Vec<u8>,
+    record: Vec<u64>,
+    work: Vec<u64>,
+}
+
+impl Library {
+    fn open(image: &[u8], frames: usize, spare: usize) -> Self {
+        let mut mem = image.to_vec();
+        mem.resize(image.len() + spare, 0);
+        let mut state = [0; STATE_BYTES];
+        let count = (image.len() / STABLE_PAGE_BYTES) as u64;
+        let number = raw::open(&mut state, &mut mem, count, &mut [0; ANSWER_NUMBERS]);
+        assert_eq!(number, 0, "an image");
+        Self {
+            opened: state,
+            first_page: image[..STABLE_PAGE_BYTES].to_vec(),
+            state,
+            mem,
+            frames: vec![0; frames * PAGE_BYTES],
+            numbers: vec![0; frames],
+            clean: vec![0; CLEAN_BYTES],
+            record: vec![0; 2 * RECORD_ENTRIES],
+            work: vec![0; work_numbers(frames)],
+        }
+    }
+
+    fn memory(&self) -> &[u8] {
+        let count = u64::from_le_bytes(self.state[..8].try_into().expect("eight bytes"));
+        &self.mem[..count as usize * STABLE_PAGE_BYTES]
+    }
+
+    fn on_all(&mut self, call: impl FnOnce(&mut [u8], &mut Lent, &mut [u64]) -> u64) {
+        let mut lent = Lent {
+            mem: &mut self.mem,
+            frames: &mut self.frames,
+            numbers: &mut self.numbers,
+            clean: &mut self.clean,
+            record: &mut self.record,
+            work: &mut self.work,
+        };
+        let number = call(&mut self.state, &mut lent, &mut [0; ANSWER_NUMBERS]);
+        assert_eq!(number, 0, "an accepted call");
+    }
+
+    fn on_memory(
+        &mut self,
+        call: impl FnOnce(&mut [u8], &mut [u8], &mut [u64]) -> u64,
+    ) -> [u64; ANSWER_NUMBERS] {
+        let mut answer = [0; ANSWER_NUMBERS];
+        let number = call(&mut self.state, &mut self.mem, &mut answer);
+        assert_eq!(number, 0, "an accepted call");
+        answer
+    }
+}
+
+impl Side for Library {
+    fn begin(&mut self) {
+        self.on_memory(|state, _, answer| raw::begin_update(state, 0, 0, 0, answer));
+    }
+
+    fn read(&mut self, offset: u64, dst: &mut [u8]) {
+        self.on_all(|state, lent, answer| raw::read_at(state, lent, offset, dst, answer));
+    }
+
+    fn write(&mut self, offset: u64, bytes: &[u8]) {
+        self.on_all(|state, lent, answer| raw::write_at(state, lent, offset, bytes, answer));
+    }
+
+    fn commit(&mut self) {
+        self.on_all(raw::commit_update);
+    }
+
+    fn rollback(&mut self) {
+        self.on_all(raw::rollback_update);
+    }
+
+    fn checksum(&mut self) -> u64 {
+        self.on_memory(|state, mem, answer| raw::checksum(state, mem, answer))[0]
+    }
+
+    fn refresh(&mut self, max_bytes: u64) -> u64 {
+        let step = |state: &mut [u8], mem: &mut [u8], answer: &mut [u64]| {
+            raw::refresh_checksum_chunk(state, mem, max_bytes, answer)
+        };
+        self.on_memory(step)[1]
+    }
+
+    fn begin_import(&mut self, total: u64, expected: u64) {
+        self.on_memory(|state, mem, answer| raw::begin_import(state, mem, total, expected, answer));
+    }
+
+    fn import_chunk(&mut self, offset: u64, bytes: &[u8]) {
+        self.on_memory(|state, mem, answer| raw::import_chunk(state, mem, offset, bytes, answer));
+    }
+
+    fn finish_import(&mut self) {
+        self.on_memory(raw::finish_import);
+    }
+
+    fn reopen(&mut self) {
+        self.state = self.opened;
+        self.mem[..STABLE_PAGE_BYTES].copy_from_slice(&self.first_page);
+    }
+}
+
+pub struct Original {
+    image: Rc<[u8]>,
+    ceiling: u64,
+    /// The one context of the thread: further ones would make each call search for its own.
+    store: Option<Store>,
+}
+
+impl Original {
+    fn open(image: Rc<[u8]>, spare: usize) -> Self {
+        let mut original = Self {
+            ceiling: ((image.len() + spare) / STABLE_PAGE_BYTES) as u64,
+            image,
+            store: None,
+        };
+        original.reopen();
+        original
+    }
+
+    fn store(&mut self) -> &mut Store {
+        self.store.as_mut().expect("an open store")
+    }
+}
+
+impl Side for Original {
+    fn begin(&mut self) {
+        self.store().begin_update().expect("an accepted call");
+    }
+
+    fn read(&mut self, offset: u64, dst: &mut [u8]) {
+        self.store().read_at(offset, dst).expect("an accepted call");
+    }
+
+    fn write(&mut self, offset: u64, bytes: &[u8]) {
+        self.store()
+            .write_at(offset, bytes)
+            .expect("an accepted call");
+    }
+
+    fn commit(&mut self) {
+        self.store().commit_update().expect("an accepted call");
+    }
+
+    fn rollback(&mut self) {
+        self.store().rollback_update();
+    }
+
+    fn checksum(&mut self) -> u64 {
+        self.store().checksum().expect("an accepted call")
+    }
+
+    fn refresh(&mut self, max_bytes: u64) -> u64 {
+        let step = self.store().refresh_checksum_chunk(max_bytes);
+        step.expect("an accepted call").checksum
+    }
+
+    fn begin_import(&mut self, total: u64, expected: u64) {
+        let begun = self.store().begin_import(total, expected);
+        begun.expect("an accepted call");
+    }
+
+    fn import_chunk(&mut self, offset: u64, bytes: &[u8]) {
+        let taken = self.store().import_chunk(offset, bytes);
+        taken.expect("an accepted call");
+    }
+
+    fn finish_import(&mut self) {
+        self.store().finish_import().expect("an accepted call");
+    }
+
+    fn reopen(&mut self) {
+        self.store = None;
+        let count = (self.image.len() / STABLE_PAGE_BYTES) as u64;
+        let opened = Store::open(&self.image, count, self.ceiling);
+        self.store = Some(opened.expect("an image"));
+    }
+}
+
+pub struct Pair {
+    pub library: Library,
+    pub original: Original,
+}
+
+impl Pair {
+    /// The same image on both sides; the library is lent so many frames, and memory has so many spare bytes.
+    pub fn open(pages: u64, runs: u64, frames: usize, spare: usize) -> Self {
+        let image: Rc<[u8]> = image::of(pages, runs).into();
+        Self {
+            library: Library::open(&image, frames, spare),
+            original: Original::open(image, spare),
+        }
+    }
+
+    /// Both sides, the library first, and then whether they read the same.
+    pub fn read_same(&mut self, offset: u64, len: usize) {
+        let (mut one, mut other) = (vec![0; len], vec![0; len]);
+        self.library.read(offset, &mut one);
+        self.original.read(offset, &mut other);
+        assert_eq!(one, other, "one file");
+    }
+
+    /// With no update open, memory is the same on both sides.
+    pub fn is_same(&mut self) {
+        let Self { library, original } = self;
+        let difference = original.store().difference(library.memory());
+        assert_eq!(difference, None, "one memory");
+    }
+}
