@@ -21,9 +21,13 @@ impl Prng {
     }
 
     pub fn fill(&mut self, bytes: &mut [u8]) {
-        for part in bytes.chunks_mut(8) {
-            let number = self.number().to_le_bytes();
-            part.copy_from_slice(&number[..part.len()]);
+        let mut parts = bytes.chunks_exact_mut(8);
+        for part in &mut parts {
+            part.copy_from_slice(&self.number().to_le_bytes());
+        }
+        let rest = parts.into_remainder();
+        if !rest.is_empty() {
+            rest.copy_from_slice(&self.number().to_le_bytes()[..rest.len()]);
         }
     }
 

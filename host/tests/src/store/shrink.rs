@@ -29,8 +29,10 @@ impl List {
             Ok((_, Some(run))) => run,
         };
         let failed = |act: &Act| step(&mut run, act).err().map(|text| (*act, text));
-        let (act, text) = self.acts.iter().find_map(failed)?;
-        Some(format!("{act:?}: {text}"))
+        if let Some((act, text)) = self.acts.iter().find_map(failed) {
+            return Some(format!("{act:?}: {text}"));
+        }
+        run.check().err().map(|text| format!("in the end: {text}"))
     }
 
     /// Leaves out what the failure does not need.
@@ -117,6 +119,9 @@ pub fn random(seed: u64, shape: Shape, counts: &mut Counts) -> Result<(), String
             (_, Some(outcome)) => counts.count("open", outcome.number),
             _ => {}
         }
+    }
+    if run.check().is_err() {
+        return Err(list.shrink().report());
     }
     counts.compared += run.compared;
     counts.full_caches += run.full_caches;
