@@ -94,8 +94,7 @@ uint64_t yuharopu_plan(uint64_t *work, size_t work_len, const uint64_t *extents,
  *   - `state` has not exactly 336 bytes or `answer` fewer than four places;
  *   - `mem`, if it is lent, is shorter than the count of stable pages;
  *   - `clean`, if it is lent, has fewer than 131,072 bytes;
- *   - in an update, `frames`, `numbers` or `record`, if they are lent, hold less than the update has (but for
- *     yuharopu_dirty_page, which then shows no page that they do not hold);
+ *   - in an update, `frames`, `numbers` or `record`, if they are lent, hold less than the update has;
  *   - `work`, if it is lent, has fewer than 2 x (1,025 + 2 n) numbers, n being the frames lent to this call. */
 #define YUHAROPU_STATE_BYTES 336
 #define YUHAROPU_ANSWER_NUMBERS 4

@@ -1,8 +1,10 @@
 -- What the calls promise: each is the store's definition at 01's sizes, for whatever a call that is lent less cannot touch.
 use mathlib.Core.Path.{_≡_}
-use Prim.Native.Nat.{ℕ}
-use mathlib.Core.Bool.{true, false}
+use Prim.Native.Nat.{ℕ, _/_, min}
+use mathlib.Core.Bool.{Bool, true, false}
 use mathlib.Core.List.{List, []}
+use lib.Dec.{ltb}
+use lib.ListN.{length}
 use Rattle.update.specs.Buffers.{Buffers}
 use Rattle.store.specs.declared.State.{State}
 use Rattle.overlay.specs.declared.reading.Reading.{Reading}
@@ -11,7 +13,7 @@ use Rattle.overlay.specs.declared.reading.Reading.the-variants.{Refused as Unre
 use Rattle.store.specs.declared.Answer.{Answer}
 use Rattle.store.specs.declared.Answer.the-variants.{Read, Refused}
 use Rattle.store.specs.Codec.{realCodec}
-use Rattle.store.specs.Calls.{Call, read, Lent, Out, out}
+use Rattle.store.specs.Calls.{Call, read, Lent, Out, out, Mode, idle, update}
 use Rattle.store.specs.Store.{store}
 use Rattle.transfer.specs.OnMemory.{lent}
 
@@ -34,3 +36,8 @@ abbrev pub readAnswer : Reading → Answer
 readAnswer Full = Read true
 readAnswer Short = Read false
 readAnswer (Unread r) = Refused r
+
+-- 01, 35: "the frames .. shorter than what they hold", of the dirty-page view, which is lent frames and their numbers alone
+abbrev pub framesShort : Mode → List ℕ → List ℕ → Bool
+framesShort idle frames numbers = false
+framesShort (update v) frames numbers = ltb (min (length frames / 16384) (length numbers)) (v .dirty)

@@ -14,6 +14,7 @@ pub use committing::commit_update;
 pub use committing::rollback_update;
 pub use opening::open;
 pub use reading::dirty_page;
+pub use reading::frames_are_short;
 pub use reading::read_at;
 pub use transfer::begin_import;
 pub use transfer::cancel_import;

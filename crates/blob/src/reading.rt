@@ -11,7 +11,7 @@ ghost use Rattle.update.specs.Laid.{bufs};
 ghost use Rattle.store.specs.Codec.{realCodec};
 ghost use Rattle.store.specs.Calls.{modeOf};
 ghost use Rattle.store.specs.Store.{full, dirtyIn};
-ghost use Rattle.blob.specs.Lending.{Reads, readAnswer};
+ghost use Rattle.blob.specs.Lending.{Reads, readAnswer, framesShort};
 
 // "A read is full exactly when it is empty or ends at or before the size, else short"
 fn is_full(size: u64, offset: u64, n: usize) -> bool
@@ -90,6 +90,17 @@ pub fn read_at(
         },
         answer: answer_of(reading),
     }
+}
+
+// 35 for the dirty-page view, which is lent frames and their numbers alone. A view has no answer to refuse with: who shows it asks this first.
+pub fn frames_are_short(s: State, frames: &[u8], numbers: &[u64]) -> bool
+    ensures { λ r. ⌜ r ≡ framesShort (modeOf s) (now (frames .entry)) (now (numbers .entry)) ⌝ }
+{
+    if !s.updating {
+        return false;
+    }
+    let o = s.overlay;
+    touch::frame_count(frames, numbers) < o.dirty
 }
 
 // "is shown to callers as the part of the lent frames that holds it, empty if it is not dirty"

@@ -17,6 +17,7 @@ use Rattle.store.specs.Codec.{realCodec}
 use Rattle.store.specs.Calls.{Call, read, Lent, modeOf}
 use Rattle.store.specs.Store.{dirtyIn}
 use Rattle.transfer.specs.OnMemory.{lent}
+use Rattle.blob.specs.Lending.{framesShort}
 use Rattle.encoding.specs.StateBytes.{stateIn}
 use Rattle.encoding.specs.Called.{called, call, ask, tooShort, values, answerShown, showing, Looked}
 
@@ -58,11 +59,11 @@ pub record Shown : Type 0 where
 abbrev pub shown : ℕ → List ℕ → List ℕ → Shown
 shown r an d = record { number = r; answer = an; bytes = d }
 
--- the page in front of d, as far as that reaches, and its length
+-- 35, or the page in front of d, as far as that reaches, and its length
 unfoldable pub dirtyShown : List ℕ → List ℕ → List ℕ → List ℕ → ℕ → List ℕ → Shown
 dirtyShown st an frames numbers q d =
     let page : List ℕ = dirtyIn 16384 65536 8 1024 18446744073709551615 realCodec (modeOf (stateIn st)) frames numbers q in
-    cond (tooShort st an) (shown 35 an d) (shown 0 (overwrite 0 (values (Exported (length page))) an) (overwrite 0 page d))
+    cond (tooShort st an || framesShort (modeOf (stateIn st)) frames numbers) (shown 35 an d) (shown 0 (overwrite 0 (values (Exported (length page))) an) (overwrite 0 page d))
 
 module _ (st an frames numbers : List ℕ) (q : ℕ) (d : List ℕ) where
   pub dirty-short : tooShort st an ≡ true → shown 35 an d ≡ dirtyShown st an frames numbers q d
@@ -73,13 +74,21 @@ module _ (st an frames numbers : List ℕ) (q : ℕ) (d : List ℕ) where
   unfolding answerShown
   looked n r an′ h b = λ i. shown (h st i .number) (h st i .answer) b
 
-  pub dirty-done : (s : State) (page : List ℕ) (r : ℕ) (an′ : List ℕ) → tooShort st an ≡ false → s ≡ stateIn st
-      → page ≡ dirtyIn 16384 65536 8 1024 18446744073709551615 realCodec (modeOf s) frames numbers q → Looked (Exported (length page)) an r an′ → shown r an′ (overwrite 0 page d) ≡ dirtyShown st an frames numbers q d
-  unfolding dirtyShown
-  dirty-done s page r an′ long holds is h =
-      let same : page ≡ dirtyIn 16384 65536 8 1024 18446744073709551615 realCodec (modeOf (stateIn st)) frames numbers q =
-      is ∙ ap (λ (z : State). dirtyIn 16384 65536 8 1024 18446744073709551615 realCodec (modeOf z) frames numbers q) holds in
-      rw long (looked (length page) r an′ h (overwrite 0 page d) ∙ ap (λ (z : List ℕ). shown 0 (overwrite 0 (values (Exported (length z))) an) (overwrite 0 z d)) same)
+  module _ (s : State) (long : tooShort st an ≡ false) (holds : s ≡ stateIn st) where
+    frames-are : (t : Bool) → framesShort (modeOf s) frames numbers ≡ t → framesShort (modeOf (stateIn st)) frames numbers ≡ t
+    frames-are t e = ap (λ (z : State). framesShort (modeOf z) frames numbers) (sym holds) ∙ e
+
+    pub dirty-frames : framesShort (modeOf s) frames numbers ≡ true → shown 35 an d ≡ dirtyShown st an frames numbers q d
+    unfolding dirtyShown
+    dirty-frames e = rw (long, frames-are true e)
+
+    pub dirty-done : (page : List ℕ) (r : ℕ) (an′ : List ℕ) → framesShort (modeOf s) frames numbers ≡ false
+        → page ≡ dirtyIn 16384 65536 8 1024 18446744073709551615 realCodec (modeOf s) frames numbers q → Looked (Exported (length page)) an r an′ → shown r an′ (overwrite 0 page d) ≡ dirtyShown st an frames numbers q d
+    unfolding dirtyShown
+    dirty-done page r an′ e is h =
+        let same : page ≡ dirtyIn 16384 65536 8 1024 18446744073709551615 realCodec (modeOf (stateIn st)) frames numbers q =
+        is ∙ ap (λ (z : State). dirtyIn 16384 65536 8 1024 18446744073709551615 realCodec (modeOf z) frames numbers q) holds in
+        rw (long, frames-are false e) (looked (length page) r an′ h (overwrite 0 page d) ∙ ap (λ (z : List ℕ). shown 0 (overwrite 0 (values (Exported (length z))) an) (overwrite 0 z d)) same)
 
 -- ## What 35 leaves
 

@@ -213,7 +213,11 @@ pub extern "C" fn yuharopu_dirty_page(
     if encoding::are_short(state, answer) {
         return BUFFER_TOO_SHORT;
     }
-    let bytes = blob::dirty_page(encoding::decode(state), frames, numbers, page);
+    let s = encoding::decode(state);
+    if blob::frames_are_short(s, frames, numbers) {
+        return BUFFER_TOO_SHORT;
+    }
+    let bytes = blob::dirty_page(s, frames, numbers, page);
     memory::copy(dst, bytes);
     encoding::tell(Answer::Exported(bytes.len() as u64), answer)
 }

@@ -249,7 +249,8 @@ fn state_of(numbers: &[(usize, u64)]) -> Vec<u8> {
     state.iter().flat_map(|n| n.to_le_bytes()).collect()
 }
 
-/// A dirty page is shown as far as the buffer reaches, and not at all where its frame is not lent or no update is open.
+/// A dirty page is shown as far as the buffer reaches, and not at all where no update is open or the page is not dirty. Frames or
+/// numbers that hold less than the update has are 35.
 #[test]
 fn a_dirty_page_in_any_buffer() {
     let frames = Prng::new(1).bytes(2 * PAGE_LEN);
@@ -263,24 +264,22 @@ fn a_dirty_page_in_any_buffer() {
         assert!(dst[held..].iter().all(|byte| *byte == 9));
     }
     let none = state_of(&[(DIRTY, 2)]);
-    let cases: [(&[u8], usize, &[u64], u64); 6] = [
-        (&none, 2 * PAGE_LEN, &[4, 6], 6),
-        (&open, 2 * PAGE_LEN, &[4, 6], 5),
-        (&open, 2 * PAGE_LEN - 1, &[4, 6], 6),
-        (&open, 2 * PAGE_LEN, &[4], 6),
-        (&open, 0, &[], 6),
-        (
-            &state_of(&[(UPDATING, 1), (DIRTY, 1)]),
-            2 * PAGE_LEN,
-            &[4, 6],
-            6,
-        ),
+    let one = state_of(&[(UPDATING, 1), (DIRTY, 1)]);
+    let cases: [(&[u8], usize, &[u64], u64, u64); 7] = [
+        (&none, 2 * PAGE_LEN, &[4, 6], 6, 0),
+        (&none, 0, &[], 6, 0),
+        (&open, 2 * PAGE_LEN, &[4, 6], 5, 0),
+        (&one, 2 * PAGE_LEN, &[4, 6], 6, 0),
+        (&open, 2 * PAGE_LEN - 1, &[4, 6], 4, 35),
+        (&open, 2 * PAGE_LEN, &[4], 4, 35),
+        (&open, 0, &[], 6, 35),
     ];
-    for (state, lent, numbers, page) in cases {
+    for (state, lent, numbers, page, expected) in cases {
         let (mut dst, mut answer) = ([9; 4], [9; 4]);
         let frames = &frames[..lent];
         let number = raw::dirty_page(state, frames, numbers, page, &mut dst, &mut answer);
-        assert_eq!((number, answer, dst), (0, [0; 4], [9; 4]));
+        let values = if expected == 0 { [0; 4] } else { [9; 4] };
+        assert_eq!((number, answer, dst), (expected, values, [9; 4]));
     }
 }
 

@@ -75,8 +75,8 @@ impl Cut {
             Cut::State(len) => len != yuharopu::STATE_BYTES,
             Cut::Answer(len) => len < yuharopu::ANSWER_NUMBERS,
             Cut::Memory(len) => lent.memory && ((len / 65_536) as u64) < needs.count,
-            Cut::Frames(len) => lent.buffers && needs.updating && len / PAGE_LEN < needs.dirty,
-            Cut::Numbers(len) => lent.buffers && needs.updating && len < needs.dirty,
+            Cut::Frames(len) => lent.frames && needs.updating && len / PAGE_LEN < needs.dirty,
+            Cut::Numbers(len) => lent.frames && needs.updating && len < needs.dirty,
             Cut::Clean(len) => lent.buffers && len < 8 * PAGE_LEN,
             Cut::Record(len) => lent.buffers && needs.updating && len / 2 < needs.recorded,
             Cut::Work(len) => lent.work && len / 2 < 1_025 + 2 * pages.min(numbers),
@@ -86,20 +86,25 @@ impl Cut {
 
 struct LentTo {
     memory: bool,
+    /// With their page numbers.
+    frames: bool,
+    /// Clean frames and record.
     buffers: bool,
     work: bool,
 }
 
 fn lent_to(call: &Call) -> LentTo {
-    let (memory, buffers, work) = match call {
-        Call::BeginUpdate(_) | Call::FileSize | Call::DirtyPage(_) => (false, false, false),
-        Call::ReadAt { .. } => (true, true, false),
-        Call::WriteAt { .. } | Call::Truncate(_) | Call::CommitUpdate => (true, true, true),
-        Call::RollbackUpdate => (false, true, false),
-        _ => (true, false, false),
+    let (memory, frames, buffers, work) = match call {
+        Call::BeginUpdate(_) | Call::FileSize => (false, false, false, false),
+        Call::DirtyPage(_) => (false, true, false, false),
+        Call::ReadAt { .. } => (true, true, true, false),
+        Call::WriteAt { .. } | Call::Truncate(_) | Call::CommitUpdate => (true, true, true, true),
+        Call::RollbackUpdate => (false, true, true, false),
+        _ => (true, false, false, false),
     };
     LentTo {
         memory,
+        frames,
         buffers,
         work,
     }
