@@ -16,7 +16,7 @@ import theorems
 from lists import SETS, Lists
 
 ROOT = pathlib.Path(__file__).resolve().parents[2]
-DEPS = "config memory words fnv meta runs image_runs extents update store"
+DEPS = "config memory words fnv meta meta_load runs page_sets image_runs extents update store"
 BATCH = 25
 KEPT_SEED = 1
 KEPT_SCENES = ("unmerged_record", "far_dirty", "left_in_old_page", "left_in_new_page", "cached_then_written", "moved_up")

@@ -18,7 +18,7 @@ meta.specs.Runs| normalized
 meta.specs.Block magic ofFields|real fieldsIn decode=decodeBlock checksumOf seal prefix encodedLen blockBytes encode header headerOf fresh=freshBlock
 words.specs.Words|real word wordAt
 fnv.specs.Fnv|real mixed step fold fnv1a64
-meta.specs.Load|real load=loadBlock judge blockRuns checksumIn
+meta_load.specs.Load|real load=loadBlock judge blockRuns checksumIn
 runs.specs.Sets| within merge insert add around piece remove
 runs.specs.Flat| runsIn=flatRuns
 image_runs.specs.Image|real imageNumbers imageCount

@@ -14,7 +14,7 @@ use Rattle.meta.specs.Runs.{normalized}
 use Rattle.meta.specs.Block.{magic, ofFields, fieldsIn, decode as decodeBlock, checksumOf, seal, prefix, encodedLen, blockBytes, encode, header, headerOf, fresh as freshBlock}
 use Rattle.words.specs.Words.{word, wordAt}
 use Rattle.fnv.specs.Fnv.{mixed, step, fold, fnv1a64}
-use Rattle.meta.specs.Load.{load as loadBlock, judge, blockRuns, checksumIn}
+use Rattle.meta_load.specs.Load.{load as loadBlock, judge, blockRuns, checksumIn}
 use Rattle.runs.specs.Sets.{within, merge, insert, add, around, piece, remove}
 use Rattle.runs.specs.Flat.{runsIn as flatRuns}
 use Rattle.image_runs.specs.Image.{imageNumbers, imageCount}

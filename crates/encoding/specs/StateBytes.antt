@@ -13,7 +13,7 @@ use Rattle.memory.specs.Growth.{stable}
 use Rattle.meta.specs.declared.superblock.Superblock.{Superblock}
 use Rattle.meta.specs.Block.{numbersOf, ofNumbers}
 use Rattle.words.specs.Words.{word, words, wordAt, wordsIn, wordAt-word, length-word, length-words, words-append}
-use Rattle.meta.specs.RoundTrip.{Wide}
+use Rattle.meta_load.specs.RoundTrip.{Wide}
 use Rattle.update.specs.declared.Budget.{Budget}
 use Rattle.update.specs.declared.CleanCache.{CleanCache}
 use Rattle.update.specs.declared.Overlay.{Overlay}

@@ -4,7 +4,7 @@ ghost use Prim.Native.Nat.{_+_, _*_, _≤_};
 ghost use lib.ListN.{length};
 ghost use Rattle.memory.specs.Bytes.{overwrite};
 ghost use Rattle.words.specs.Words.{words, wordsIn};
-ghost use Rattle.meta.specs.RoundTrip.{Wide};
+ghost use Rattle.meta_load.specs.RoundTrip.{Wide};
 
 pub const STATE_NUMBERS: usize = 42;
 

@@ -19,7 +19,7 @@ use Rattle.words.specs.Words.{word, wordAt}
 use Rattle.fnv.specs.Fnv.{basis, mixed, step, fold, fnv1a64, fnv-of-none}
 use Rattle.meta.specs.Runs.{run, numbersOf, normalized}
 use Rattle.meta.specs.Block.{magic, ofFields, header, headerOf, blockBytes, encode, fieldsIn, decode, encodedLen, prefix, checksumOf, seal, storeIn, fresh as freshBlock}
-use Rattle.meta.specs.Load.{blockRuns, checksumIn, judge as judgeBlock, load as loadBlock}
+use Rattle.meta_load.specs.Load.{blockRuns, checksumIn, judge as judgeBlock, load as loadBlock}
 use Rattle.runs.specs.Sets.{covers, within, merge, insert, add, around, piece, remove}
 use Rattle.runs.specs.Flat.{runsIn as flatRuns}
 use Rattle.image_runs.specs.Image.{imageCount, imageNumbers}

@@ -49,7 +49,7 @@ fn add_within(work: &mut [u64], count: usize, limit: usize, start: u64, end: u64
     if limit < count {
         return count;
     }
-    runs::add(work, count, start, end)
+    page_sets::add(work, count, start, end)
 }
 
 // Adds the pages by which the size rose or fell, from `old` to `new` bytes.
@@ -97,7 +97,7 @@ fn remove_below(work: &mut [u64], count: usize, page: u64, end: u64) -> usize
     if end <= page {
         return count;
     }
-    runs::remove(work, count, page)
+    page_sets::remove(work, count, page)
 }
 
 // Removes the dirty pages below `end`.
@@ -205,6 +205,6 @@ pub fn plan_numbers(
     requires { ⌜ (image ≤ 1024) × ((1025 + dirty * 2) * 2 ≤ length (now work)) ⌝ }
     ensures { λ r. ⌜ outcome r (now (work .exit)) ≡ planned (length (now (work .entry))) (planOf 16384 1024 old new (runsIn image (now (extents .entry))) (runsIn entries (now (recorded .entry))) (take dirty (now (numbers .entry)))) ⌝ }
 {
-    let count = runs::copy_runs(work, extents, image);
+    let count = page_sets::copy_runs(work, extents, image);
     plan_on(work, count, old, new, recorded, entries, numbers, dirty)
 }

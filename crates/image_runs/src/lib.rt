@@ -63,7 +63,7 @@ fn gather_image(work: &mut [u64], mem: &[u8], count: usize) -> usize
     let mut have = 0;
     while i < n {
         let x = read(mem, i);
-        have = runs::add(work, have, x.start, x.end);
+        have = page_sets::add(work, have, x.start, x.end);
         i += 1;
     }
     have

@@ -1,14 +1,9 @@
 // The superblock of an image, and its checksum.
-mod opening;
 mod superblock;
 
 pub use fnv::FNV_OFFSET_BASIS;
 pub use fnv::fnv1a64;
 pub use fnv::fold_fnv1a64;
-pub use opening::Loaded;
-pub use opening::extent_at;
-pub use opening::load;
-pub use opening::normalized;
 pub use superblock::Superblock;
 pub use words::read_word;
 pub use words::write_word;

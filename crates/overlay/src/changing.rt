@@ -1,5 +1,4 @@
 // Changes of the file of an update.
-use crate::buffers;
 use config::Refusal;
 use update::Changed;
 use update::Image;
@@ -43,7 +42,7 @@ pub fn write_at(
             verdict: Verdict::Refused(Refusal::OffsetOverflow),
         };
     }
-    let step = changes::write(
+    let step = writing::write(
         settled,
         image,
         mem,
@@ -89,7 +88,7 @@ pub fn truncate(
             verdict: Verdict::Refused(Refusal::BufferTooShort),
         };
     }
-    changes::resize(
+    truncation::resize(
         buffers::settle(o),
         image,
         mem,

@@ -8,7 +8,7 @@ use Rattle.store.specs.declared.Answer.{Answer}
 use Rattle.store.specs.Codec.{realCodec}
 use Rattle.store.specs.Calls.{Call, begin, read, write, truncate, commit, rollback, fileSize, importBegin, importChunk, importFinish, importCancel, export, checksum, refresh, refreshStep, Lent, Out, out}
 use Rattle.transfer.specs.OnMemory.{lent, OnMemory}
-use Rattle.blob.specs.Lending.{calls, Alone, OnBuffers, Reads}
+use Rattle.lending.specs.Lending.{calls, Alone, OnBuffers, Reads}
 use Rattle.plain_file.specs.Claim.{Step, Claim}
 use Rattle.plain_file.specs.Demand3.{demand3}
 

@@ -6,11 +6,11 @@ use mathlib.Core.List.{List, []}
 use Rattle.memory.specs.Bytes.{overwrite}
 use Rattle.meta.specs.declared.superblock.Superblock.{Superblock}
 use Rattle.meta.specs.declared.ZeroExtent.{ZeroExtent}
-use Rattle.meta.specs.declared.opening.Loaded.{Loaded}
+use Rattle.meta_load.specs.declared.Loaded.{Loaded}
 use Rattle.meta.specs.Runs.{numbersOf}
 use Rattle.fnv.specs.Fnv.{basis, fold}
 use Rattle.meta.specs.Block.{prefix, sealedBy, checksumOf, seal, storeIn, decode as decodeBlock, fresh as freshBlock}
-use Rattle.meta.specs.Load.{load as loadBlock}
+use Rattle.meta_load.specs.Load.{load as loadBlock}
 use Rattle.image_runs.specs.Image.{imageRuns}
 
 pub record Codec : Type 0 where

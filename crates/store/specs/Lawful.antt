@@ -6,7 +6,7 @@ use mathlib.Core.List.{List, [], _∷_}
 use lib.ListN.{length, getD}
 use Rattle.meta.specs.declared.superblock.Superblock.{Superblock}
 use Rattle.meta.specs.declared.ZeroExtent.{ZeroExtent}
-use Rattle.meta.specs.declared.opening.Loaded.the-variants.{Block}
+use Rattle.meta_load.specs.declared.Loaded.the-variants.{Block}
 use Rattle.words.specs.Words.{Bytes}
 use Rattle.meta.specs.Runs.{normalized}
 use Rattle.update.specs.PageLaws.{EndsBy}

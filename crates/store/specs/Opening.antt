@@ -10,8 +10,8 @@ use Rattle.memory.specs.Growth.{growTo}
 use Rattle.memory.specs.declared.Growth.{Growth}
 use Rattle.memory.specs.declared.Growth.the-variants.{Grown, Refused as NotGrown}
 use Rattle.meta.specs.declared.superblock.Superblock.{Superblock}
-use Rattle.meta.specs.declared.opening.Loaded.{Loaded}
-use Rattle.meta.specs.declared.opening.Loaded.the-variants.{Block, Refused as NotLoaded}
+use Rattle.meta_load.specs.declared.Loaded.{Loaded}
+use Rattle.meta_load.specs.declared.Loaded.the-variants.{Block, Refused as NotLoaded}
 use Rattle.meta.specs.Block.{ofFields}
 use Rattle.store.specs.declared.State.{State}
 use Rattle.store.specs.declared.Answer.{Answer}

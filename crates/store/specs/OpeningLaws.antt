@@ -16,8 +16,8 @@ use Rattle.memory.specs.Growth.{growTo, stable}
 use Rattle.memory.specs.Laws.{split}
 use Rattle.memory.specs.declared.Growth.{Growth}
 use Rattle.meta.specs.declared.superblock.Superblock.{Superblock}
-use Rattle.meta.specs.declared.opening.Loaded.{Loaded}
-use Rattle.meta.specs.declared.opening.Loaded.the-variants.{Block, Refused as NotLoaded}
+use Rattle.meta_load.specs.declared.Loaded.{Loaded}
+use Rattle.meta_load.specs.declared.Loaded.the-variants.{Block, Refused as NotLoaded}
 use Rattle.words.specs.Words.{Bytes}
 use Rattle.meta.specs.Runs.{normalized, normalized-nil}
 use Rattle.update.specs.ListLaws.{clash, tests}

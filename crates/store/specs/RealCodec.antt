@@ -14,14 +14,14 @@ use Rattle.memory.specs.Bytes.{resize, overwrite}
 use Rattle.memory.specs.Laws.{resize-in, overwrite-in, length-overwrite}
 use Rattle.meta.specs.declared.superblock.Superblock.{Superblock}
 use Rattle.meta.specs.declared.ZeroExtent.{ZeroExtent}
-use Rattle.meta.specs.declared.opening.Loaded.{Loaded}
-use Rattle.meta.specs.declared.opening.Loaded.the-variants.{Block, Refused}
+use Rattle.meta_load.specs.declared.Loaded.{Loaded}
+use Rattle.meta_load.specs.declared.Loaded.the-variants.{Block, Refused}
 use Rattle.words.specs.Words.{le, word, words, wordAt, wordsIn, length-word, length-le, length-words, wordAt-word, wordAt-drop, wordAt-alike, wordAt-lt, Bytes, bytes-drop}
 use Rattle.meta.specs.Runs.{run, runsOf, numbersOf, runsIn, runsIn-alike, normalized}
 use Rattle.meta.specs.Block.{magic, decode, encode, encodedLen, prefix, seal, storeIn, fieldsOf, fieldsIn, fieldOffset, offset-is, header, headerOf, blockBytes, unsealed, fresh}
 use Rattle.meta.specs.BlockLaws.{fieldsIn-at, length-encode, encodedLen-lo, encodedLen-hi}
-use Rattle.meta.specs.Load.{pick, judge, load, blockRuns}
-use Rattle.meta.specs.RoundTrip.{Wide, decode-alike, runs-encode}
+use Rattle.meta_load.specs.Load.{pick, judge, load, blockRuns}
+use Rattle.meta_load.specs.RoundTrip.{Wide, decode-alike, runs-encode}
 use Rattle.runs.specs.Members.{From}
 use Rattle.runs.specs.SetLaws.{normalized-from}
 use Rattle.image_runs.specs.Image.{imageCount, imageNumbers, imageRuns, image-all}

@@ -15,12 +15,12 @@ use Rattle.memory.specs.Bytes.{overwrite}
 use Rattle.memory.specs.Laws.{overwrite-in, overwrite-mid, length-overwrite}
 use Rattle.meta.specs.declared.superblock.Superblock.{Superblock}
 use Rattle.meta.specs.declared.ZeroExtent.{ZeroExtent}
-use Rattle.meta.specs.declared.opening.Loaded.{Loaded}
-use Rattle.meta.specs.declared.opening.Loaded.the-variants.{Block, Refused}
+use Rattle.meta_load.specs.declared.Loaded.{Loaded}
+use Rattle.meta_load.specs.declared.Loaded.the-variants.{Block, Refused}
 use Rattle.words.specs.Words.{Bytes}
 use Rattle.meta.specs.Runs.{run, runsOf, numbersOf, normalized}
 use Rattle.meta.specs.Block.{magic, fieldsOf, otherFields, ofFields, sealedBy}
-use Rattle.meta.specs.Load.{pick}
+use Rattle.meta_load.specs.Load.{pick}
 use Rattle.runs.specs.Flat.{runsIn}
 use Rattle.runs.specs.FlatLaws.{length-numbers, length-runsIn, runs-numbers}
 use Rattle.update.specs.ListLaws.{take-alike}

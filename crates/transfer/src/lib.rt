@@ -1,12 +1,7 @@
-// Imports, exports and checksums of an image: the calls that are lent memory alone.
-mod import;
-mod step;
+// Exports and checksums of an image, and how every call ends that is lent memory alone.
+pub mod step;
 mod sums;
 
-pub use import::begin_import;
-pub use import::cancel_import;
-pub use import::finish_import;
-pub use import::import_chunk;
 pub use sums::checksum;
 pub use sums::export_chunk;
 pub use sums::refresh_checksum;

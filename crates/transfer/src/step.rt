@@ -11,7 +11,7 @@ ghost use Rattle.store.specs.declared.Answer.the-variants.{Refused};
 ghost use Rattle.store.specs.Store.{onward};
 ghost use Rattle.transfer.specs.Steps.{stepOut, step};
 
-pub(crate) fn refuse(s: State, refusal: Refusal) -> Step
+pub fn refuse(s: State, refusal: Refusal) -> Step
     ensures { λ r. ⌜ r ≡ record { state = s; answer = Refused refusal } ⌝ }
 {
     Step {
@@ -21,7 +21,7 @@ pub(crate) fn refuse(s: State, refusal: Refusal) -> Step
 }
 
 // The state with another count and block.
-pub(crate) fn onward(s: State, count: StablePages, block: Superblock) -> State
+pub fn onward(s: State, count: StablePages, block: Superblock) -> State
     ensures { λ r. ⌜ r ≡ onward s (count .0) block ⌝ }
 {
     let updating = s.updating;
@@ -35,7 +35,7 @@ pub(crate) fn onward(s: State, count: StablePages, block: Superblock) -> State
 }
 
 // The block is stored, with the image's runs as they are in memory.
-pub(crate) fn restore(s: State, mem: &mut [u8], block: Superblock, answer: Answer) -> Step
+pub fn restore(s: State, mem: &mut [u8], block: Superblock, answer: Answer) -> Step
     ensures { λ r. ⌜ stepOut r (now (mem .exit)) ≡ stepOut (step (onward s (s .count .0) (resealed block (now (mem .entry)))) answer) (restored block (now (mem .entry))) ⌝ }
 {
     let count = s.count;

@@ -21,3 +21,4 @@ pub mod TouchLaws
 pub mod PushLaws
 pub mod SettleLaws
 pub mod ImageLaws
+pub mod FitLaws

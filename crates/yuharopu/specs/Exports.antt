@@ -11,10 +11,10 @@ use Rattle.memory.specs.declared.Growth.{Growth}
 use Rattle.memory.specs.declared.Growth.the-variants.{Grown, Refused as GrowthRefused}
 use Rattle.memory.specs.Bytes.{zeros, overwrite}
 use Rattle.memory.specs.Growth.{Outcome, growTo}
-use Rattle.meta.specs.declared.opening.Loaded.{Loaded}
-use Rattle.meta.specs.declared.opening.Loaded.the-variants.{Block, Refused}
+use Rattle.meta_load.specs.declared.Loaded.{Loaded}
+use Rattle.meta_load.specs.declared.Loaded.the-variants.{Block, Refused}
 use Rattle.meta.specs.Block.{numbersOf, ofNumbers, fresh, storeIn}
-use Rattle.meta.specs.Load.{load}
+use Rattle.meta_load.specs.Load.{load}
 use Rattle.runs.specs.Flat.{runsIn}
 use Rattle.extents.specs.declared.Planned.{Planned}
 use Rattle.extents.specs.declared.Planned.the-variants.{Runs, Refused as PlanRefused}

@@ -17,7 +17,7 @@ use Rattle.store.specs.Codec.{realCodec}
 use Rattle.store.specs.Calls.{Call, read, Lent, modeOf}
 use Rattle.store.specs.Store.{dirtyIn}
 use Rattle.transfer.specs.OnMemory.{lent}
-use Rattle.blob.specs.Lending.{framesShort}
+use Rattle.reading.specs.Views.{framesShort}
 use Rattle.encoding.specs.StateBytes.{stateIn}
 use Rattle.encoding.specs.Called.{called, call, ask, tooShort, values, answerShown, showing, Looked}
 

@@ -10,8 +10,8 @@ ghost use Rattle.yuharopu.specs.Exports.{answer, grew, plans, loadFields
 use config::StablePages;
 use extents::Planned;
 use memory::Growth;
-use meta::Loaded;
 use meta::Superblock;
+use meta_load::Loaded;
 
 const ZERO_EXTENT_LIMIT_EXCEEDED: u64 = 31;
 
@@ -81,7 +81,7 @@ pub extern "C" fn yuharopu_superblock_load(block: &[u8], fields: &mut [u64]) -> 
     if fields.len() < 21 {
         return BUFFER_TOO_SHORT;
     }
-    match meta::load(block) {
+    match meta_load::load(block) {
         Loaded::Block(b) => {
             let numbers = b.numbers();
             memory::copy_numbers(fields, &numbers);

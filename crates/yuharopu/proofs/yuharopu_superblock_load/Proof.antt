@@ -7,7 +7,7 @@ use borrow.Author.Needs.{needs}
 use Rattle.config.specs.declared.refusal.Numbers.{Numbers}
 use Rattle.memory.specs.Bytes.{zeros, overwrite}
 use Rattle.meta.specs.Block.{numbersOf}
-use Rattle.meta.specs.declared.opening.Loaded.{Loaded}
+use Rattle.meta_load.specs.declared.Loaded.{Loaded}
 use Rattle.yuharopu.specs.Exports.{answer, shown, loadFields, load-shown}
 use Rattle.yuharopu.proofs.yuharopu_superblock_load.Statement.{statement}
 use Rattle.yuharopu.proofs.yuharopu_superblock_load.Tie as tie

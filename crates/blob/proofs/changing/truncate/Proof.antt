@@ -5,7 +5,7 @@ use Rattle.update.specs.Laid.{bufs}
 use Rattle.overlay.specs.Calls.{truncateTo}
 use Rattle.transfer.specs.OnMemory.{lent}
 use Rattle.transfer.specs.StoreCases.{refused-as}
-use Rattle.blob.specs.ChangeLaws.{truncate-short, truncate-leaves, truncate-is}
+use Rattle.settling.specs.ChangeLaws.{truncate-short, truncate-leaves, truncate-is}
 use borrow.Author.Needs.{needs}
 use Rattle.blob.proofs.changing.truncate.Statement.{statement}
 use Rattle.blob.proofs.changing.truncate.Tie as tie

@@ -5,7 +5,7 @@ use Rattle.update.specs.Laid.{bufs}
 use Rattle.overlay.specs.Calls.{writeAt}
 use Rattle.transfer.specs.OnMemory.{lent}
 use Rattle.transfer.specs.StoreCases.{refused-as}
-use Rattle.blob.specs.ChangeLaws.{write-short, write-leaves, write-is}
+use Rattle.settling.specs.ChangeLaws.{write-short, write-leaves, write-is}
 use borrow.Author.Needs.{needs}
 use Rattle.blob.proofs.changing.write_at.Statement.{statement}
 use Rattle.blob.proofs.changing.write_at.Tie as tie

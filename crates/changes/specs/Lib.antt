@@ -1,3 +1,0 @@
-pub mod FitLaws
-pub mod CutLaws
-pub mod WriteLaws
