@@ -84,6 +84,9 @@ uint64_t yuharopu_plan(uint64_t *work, size_t work_len, const uint64_t *extents,
  *   record   two numbers an entry, start then end: a run of pages for each change of the page count, in order;
  *   work     2 x (1,025 + 2 n) numbers. A call keeps nothing there: it is zeros after every call that is lent it and
  *            does not answer 35.
+ * A call may be lent the front of longer buffers. It needs the frames in use (number 25 of the state, counted from 0) and
+ * as many as it can make dirty: a write the pages that it has a byte in, and one more; a truncation two; the others none.
+ * With more its answer is the same, but the end of an update or of a direct call fills all that is lent with zeros.
  * Between the calls of one update the first four are the caller's to keep. Places that it does not use may hold
  * anything and stay; those that it freed are zeros; all of these four become zeros, whole, when an update ends or a
  * direct call answers anything but 35.

@@ -1,7 +1,16 @@
 //! An image with the buffers that its calls are lent.
 
 use crate::ffi::calls::{self, Lent};
-use crate::{Builder, Error, ANSWER_NUMBERS, PAGE_BYTES, STABLE_PAGE_BYTES, STATE_BYTES};
+use crate::{
+    work_numbers, Builder, Error, ANSWER_NUMBERS, PAGE_BYTES, STABLE_PAGE_BYTES, STATE_BYTES,
+};
+
+/// The places of the state's numbers that are read here.
+const STABLE_PAGES: usize = 0;
+const DIRTY_PAGES: usize = 25;
+/// A file that grows makes its last page dirty if that is not whole. The new last page is one of a write's; a truncation may make it dirty too.
+const WRITE_ENDS: usize = 1;
+const TRUNCATION_ENDS: usize = 2;
 
 /// How many pages, and how many bytes of them, an update may make dirty.
 #[derive(Clone, Copy, Debug, Eq, PartialEq)]
@@ -32,6 +41,14 @@ pub struct Store {
 
 type Values = [u64; ANSWER_NUMBERS];
 
+/// The pages that so many bytes from an offset on have a byte in.
+fn pages_of(offset: u64, len: usize) -> usize {
+    match len {
+        0 => 0,
+        _ => ((offset % PAGE_BYTES as u64) as usize + len).div_ceil(PAGE_BYTES),
+    }
+}
+
 fn result(number: u64, values: Values) -> Result<Values, Error> {
     if number == 0 {
         return Ok(values);
@@ -54,22 +71,31 @@ impl Store {
         result(number, answer)
     }
 
-    /// A call that is lent all there is.
-    fn on_all(
+    /// A call that makes at most so many more pages dirty. It is lent the frames in use and as many more, if there are so many: with all of
+    /// them its answer is the same, but the end of an update or of a direct call fills with zeros what is lent.
+    fn on_frames(
         &mut self,
+        more: usize,
         call: impl FnOnce(&mut [u8], &mut Lent, &mut [u64]) -> u64,
     ) -> Result<Values, Error> {
+        let dirty = self.number(DIRTY_PAGES) as usize;
+        let frames = self.numbers.len().min(dirty.saturating_add(more));
         let mut answer = [0; ANSWER_NUMBERS];
         let mut lent = Lent {
             mem: &mut self.mem,
-            frames: &mut self.frames,
-            numbers: &mut self.numbers,
+            frames: &mut self.frames[..frames * PAGE_BYTES],
+            numbers: &mut self.numbers[..frames],
             clean: &mut self.clean,
             record: &mut self.record,
-            work: &mut self.work,
+            work: &mut self.work[..work_numbers(frames)],
         };
         let number = call(&mut self.state, &mut lent, &mut answer);
         result(number, answer)
+    }
+
+    fn number(&self, place: usize) -> u64 {
+        let bytes = &self.state[8 * place..8 * (place + 1)];
+        u64::from_le_bytes(bytes.try_into().expect("eight bytes"))
     }
 
     /// Opens what memory holds, of which `count` stable pages are in use.
@@ -100,30 +126,36 @@ impl Store {
         let read = |state: &mut [u8], lent: &mut Lent, answer: &mut [u64]| {
             calls::read_at(state, lent, offset, dst, answer)
         };
-        Ok(self.on_all(read)?[0] == 1)
+        Ok(self.on_frames(0, read)?[0] == 1)
     }
 
     /// In the update that is open, or directly.
     pub fn write_at(&mut self, offset: u64, bytes: &[u8]) -> Result<(), Error> {
-        self.on_all(|state, lent, answer| calls::write_at(state, lent, offset, bytes, answer))?;
+        let write = |state: &mut [u8], lent: &mut Lent, answer: &mut [u64]| {
+            calls::write_at(state, lent, offset, bytes, answer)
+        };
+        self.on_frames(pages_of(offset, bytes.len()) + WRITE_ENDS, write)?;
         Ok(())
     }
 
     /// In the update that is open, or directly.
     pub fn truncate(&mut self, size: u64) -> Result<(), Error> {
-        self.on_all(|state, lent, answer| calls::truncate(state, lent, size, answer))?;
+        let truncate = |state: &mut [u8], lent: &mut Lent, answer: &mut [u64]| {
+            calls::truncate(state, lent, size, answer)
+        };
+        self.on_frames(TRUNCATION_ENDS, truncate)?;
         Ok(())
     }
 
     /// The update is over then, accepted or not. With none open nothing happens.
     pub fn commit_update(&mut self) -> Result<(), Error> {
-        self.on_all(calls::commit_update)?;
+        self.on_frames(0, calls::commit_update)?;
         Ok(())
     }
 
     /// The update is over then. With none open nothing happens.
     pub fn rollback_update(&mut self) -> Result<(), Error> {
-        self.on_all(calls::rollback_update)?;
+        self.on_frames(0, calls::rollback_update)?;
         Ok(())
     }
 
@@ -198,10 +230,9 @@ impl Store {
         (answer[0] > 0).then_some(bytes)
     }
 
-    /// How many stable pages of memory are in use: the first number of the state.
+    /// How many stable pages of memory are in use.
     pub fn stable_pages(&self) -> u64 {
-        let first = self.state[..8].try_into().expect("eight bytes");
-        u64::from_le_bytes(first)
+        self.number(STABLE_PAGES)
     }
 
     /// The bytes of the image: what to keep, and what `Builder::open` takes.

@@ -1,6 +1,6 @@
 //! Rounds of both sides in turn, and the lines of the table.
 
-use super::side::{Pair, Side};
+use super::side::{Held, Pair, Side};
 use std::time::{Duration, Instant};
 
 const AT_LEAST: usize = 11;
@@ -22,8 +22,8 @@ pub struct Times {
 }
 
 /// `round` does `operations` and says how long they took, by one clock or by several.
-pub fn measure<const N: usize>(
-    pair: &mut Pair,
+pub fn measure<const N: usize, L: Held>(
+    pair: &mut Pair<L>,
     operations: u32,
     mut round: impl FnMut(&mut dyn Side) -> [Duration; N],
 ) -> [Times; N] {

@@ -1,4 +1,4 @@
-//! The two sides. The library is called through the crate's raw layer, so that nothing is added to it.
+//! The two sides. The library is called through the crate's raw layer, so that nothing is added to it, or as a `Store`.
 
 use super::image;
 use oracle::Store;
@@ -24,6 +24,11 @@ pub trait Side {
     fn finish_import(&mut self);
     /// Back to the image at the start; an import has grown memory.
     fn reopen(&mut self);
+}
+
+/// The library's side.
+pub trait Held: Side {
+    fn memory(&self) -> &[u8];
 }
 
 /// Begins an update and writes the first pages.
@@ -67,11 +72,6 @@ impl Library {
             record: vec![0; 2 * RECORD_ENTRIES],
             work: vec![0; work_numbers(frames)],
         }
-    }
-
-    fn memory(&self) -> &[u8] {
-        let count = u64::from_le_bytes(self.state[..8].try_into().expect("eight bytes"));
-        &self.mem[..count as usize * STABLE_PAGE_BYTES]
     }
 
     fn on_all(&mut self, call: impl FnOnce(&mut [u8], &mut Lent, &mut [u64]) -> u64) {
@@ -145,6 +145,88 @@ impl Side for Library {
     fn reopen(&mut self) {
         self.state = self.opened;
         self.mem[..STABLE_PAGE_BYTES].copy_from_slice(&self.first_page);
+    }
+}
+
+impl Held for Library {
+    fn memory(&self) -> &[u8] {
+        let count = u64::from_le_bytes(self.state[..8].try_into().expect("eight bytes"));
+        &self.mem[..count as usize * STABLE_PAGE_BYTES]
+    }
+}
+
+/// The library as safe Rust.
+pub struct Wrapped {
+    image: Rc<[u8]>,
+    frames: usize,
+    store: yuharopu::Store,
+}
+
+impl Wrapped {
+    fn open(image: Rc<[u8]>, frames: usize) -> Self {
+        let builder = yuharopu::Store::builder().ceiling(0).frames(frames);
+        let store = builder.record_entries(RECORD_ENTRIES).open(&image);
+        Self {
+            image,
+            frames,
+            store: store.expect("an image"),
+        }
+    }
+}
+
+impl Side for Wrapped {
+    fn begin(&mut self) {
+        self.store.begin_update(None).expect("an accepted call");
+    }
+
+    fn read(&mut self, offset: u64, dst: &mut [u8]) {
+        self.store.read_at(offset, dst).expect("an accepted call");
+    }
+
+    fn write(&mut self, offset: u64, bytes: &[u8]) {
+        let written = self.store.write_at(offset, bytes);
+        written.expect("an accepted call");
+    }
+
+    fn commit(&mut self) {
+        self.store.commit_update().expect("an accepted call");
+    }
+
+    fn rollback(&mut self) {
+        self.store.rollback_update().expect("an accepted call");
+    }
+
+    fn checksum(&mut self) -> u64 {
+        self.store.checksum().expect("an accepted call")
+    }
+
+    fn refresh(&mut self, max_bytes: u64) -> u64 {
+        let step = self.store.refresh_checksum_chunk(max_bytes);
+        step.expect("an accepted call").checksum
+    }
+
+    fn begin_import(&mut self, total: u64, expected: u64) {
+        let begun = self.store.begin_import(total, expected);
+        begun.expect("an accepted call");
+    }
+
+    fn import_chunk(&mut self, offset: u64, bytes: &[u8]) {
+        let taken = self.store.import_chunk(offset, bytes);
+        taken.expect("an accepted call");
+    }
+
+    fn finish_import(&mut self) {
+        self.store.finish_import().expect("an accepted call");
+    }
+
+    fn reopen(&mut self) {
+        *self = Self::open(self.image.clone(), self.frames);
+    }
+}
+
+impl Held for Wrapped {
+    fn memory(&self) -> &[u8] {
+        self.store.memory()
     }
 }
 
@@ -225,8 +307,8 @@ impl Side for Original {
     }
 }
 
-pub struct Pair {
-    pub library: Library,
+pub struct Pair<L = Library> {
+    pub library: L,
     pub original: Original,
 }
 
@@ -239,7 +321,20 @@ impl Pair {
             original: Original::open(image, spare),
         }
     }
+}
 
+impl Pair<Wrapped> {
+    /// The same with a `Store` that has so many frames.
+    pub fn wrapped(pages: u64, runs: u64, frames: usize) -> Self {
+        let image: Rc<[u8]> = image::of(pages, runs).into();
+        Self {
+            library: Wrapped::open(image.clone(), frames),
+            original: Original::open(image, 0),
+        }
+    }
+}
+
+impl<L: Held> Pair<L> {
     /// Both sides, the library first, and then whether they read the same.
     pub fn read_same(&mut self, offset: u64, len: usize) {
         let (mut one, mut other) = (vec![0; len], vec![0; len]);
