@@ -125,6 +125,7 @@ def main(seed, calls, sets):
     with tempfile.TemporaryDirectory() as name:
         folder = pathlib.Path(os.environ.get("COMPARE_FOLDER", name))
         if not (folder / "crates.txt").exists():
+            folder.mkdir(parents=True, exist_ok=True)
             copy_repository(folder)
         write_crate(folder, "trial", [[e] for e in entries], f"Compared calls: seed {seed}, sets {sets}.")
         same, said = prove(folder)
