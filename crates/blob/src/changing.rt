@@ -2,6 +2,7 @@
 use config::Refusal;
 use store::State;
 use store::Step;
+use transfer::step;
 ghost use mathlib.Core.Path.{_≡_};
 ghost use mathlib.Core.List.{[]};
 ghost use Rattle.update.specs.Laid.{bufs};
@@ -25,7 +26,7 @@ pub fn write_at(
         ≡ calls s (lent (now (mem .entry)) (bufs (now (frames .entry)) (now (numbers .entry)) (now (clean .entry)) (now («record» .entry))) (now (work .entry))) (write offset (now (bytes .entry))) ⌝ }
 {
     if lending::any_is_short(s, mem, frames, numbers, clean, record, work) {
-        return lending::refuse(s, Refusal::BufferTooShort);
+        return step::refuse(s, Refusal::BufferTooShort);
     }
     let block = s.block;
     let written = overlay::write_at(
@@ -57,7 +58,7 @@ pub fn truncate(
         ≡ calls s (lent (now (mem .entry)) (bufs (now (frames .entry)) (now (numbers .entry)) (now (clean .entry)) (now («record» .entry))) (now (work .entry))) (truncate size) ⌝ }
 {
     if lending::any_is_short(s, mem, frames, numbers, clean, record, work) {
-        return lending::refuse(s, Refusal::BufferTooShort);
+        return step::refuse(s, Refusal::BufferTooShort);
     }
     let block = s.block;
     let resized = overlay::truncate(

@@ -3,6 +3,7 @@ use config::Refusal;
 use store::Answer;
 use store::State;
 use store::Step;
+use transfer::step;
 use update::Overlay;
 ghost use mathlib.Core.Path.{_≡_};
 ghost use mathlib.Core.Bool.{true};
@@ -75,7 +76,7 @@ pub fn commit_update(
         ≡ calls s (lent (now (mem .entry)) (bufs (now (frames .entry)) (now (numbers .entry)) (now (clean .entry)) (now («record» .entry))) (now (work .entry))) commit ⌝ }
 {
     if lending::any_is_short(s, mem, frames, numbers, clean, record, work) {
-        return lending::refuse(s, Refusal::BufferTooShort);
+        return step::refuse(s, Refusal::BufferTooShort);
     }
     if !s.updating {
         memory::fill_numbers(work);
@@ -100,7 +101,7 @@ pub fn rollback_update(
         (bufs (now (frames .exit)) (now (numbers .exit)) (now (clean .exit)) (now («record» .exit))) (r .answer) ⌝ }
 {
     if lending::are_short(s, frames, numbers, clean, record) {
-        return lending::refuse(s, Refusal::BufferTooShort);
+        return step::refuse(s, Refusal::BufferTooShort);
     }
     if !s.updating {
         return Step {

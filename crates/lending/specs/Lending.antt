@@ -1,15 +1,10 @@
 -- What the calls promise: each is the store's definition at 01's sizes, for whatever a call that is lent less cannot touch.
 use mathlib.Core.Path.{_≡_}
 use Prim.Native.Nat.{ℕ}
-use mathlib.Core.Bool.{true, false}
 use mathlib.Core.List.{List, []}
 use Rattle.update.specs.Buffers.{Buffers}
 use Rattle.store.specs.declared.State.{State}
-use Rattle.overlay_reads.specs.declared.Reading.{Reading}
-use Rattle.overlay_reads.specs.declared.Reading.the-variants.{Full, Short}
-use Rattle.overlay_reads.specs.declared.Reading.the-variants.{Refused as Unread}
 use Rattle.store.specs.declared.Answer.{Answer}
-use Rattle.store.specs.declared.Answer.the-variants.{Read, Refused}
 use Rattle.store.specs.Codec.{realCodec}
 use Rattle.store.specs.Calls.{Call, read, Lent, Out, out}
 use Rattle.store.specs.Store.{store}
@@ -29,8 +24,3 @@ OnBuffers s b c s′ b′ a = (m w : List ℕ) → out s′ (lent m b′ w) a []
 -- a read of the bytes d at o, which become f
 abbrev pub Reads : State → List ℕ → Buffers → ℕ → List ℕ → State → Buffers → Answer → List ℕ → Type 0
 Reads s m b o d s′ b′ a f = (w : List ℕ) → out s′ (lent m b′ w) a f ≡ calls s (lent m b w) (read o d)
-
-abbrev pub readAnswer : Reading → Answer
-readAnswer Full = Read true
-readAnswer Short = Read false
-readAnswer (Unread r) = Refused r

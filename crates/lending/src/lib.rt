@@ -1,29 +1,16 @@
-// What a call tests first of what it is lent, and the states and answers that calls end with.
+// What a call tests first of what it is lent, and the state that an update leaves when it ends.
 use config::PAGE_LEN;
-use config::Refusal;
 use config::StablePages;
 use meta::Superblock;
-use store::Answer;
 use store::State;
-use store::Step;
 use update::Budget;
 use update::Overlay;
 ghost use mathlib.Core.Path.{_≡_};
 ghost use Rattle.update.specs.Laid.{bufs};
-ghost use Rattle.store.specs.declared.Answer.the-variants.{Refused};
 ghost use Rattle.store.specs.Codec.{realCodec};
 ghost use Rattle.store.specs.Calls.{modeOf, buffersShort, short, commit};
 ghost use Rattle.store.specs.Store.{budgetOf, ended};
 ghost use Rattle.transfer.specs.OnMemory.{lent};
-
-pub fn refuse(s: State, refusal: Refusal) -> Step
-    ensures { λ r. ⌜ r ≡ record { state = s; answer = Refused refusal } ⌝ }
-{
-    Step {
-        state: s,
-        answer: Answer::Refused(refusal),
-    }
-}
 
 // A budget of which nothing is used yet.
 pub fn budget_of(limited: bool, max_pages: u64, max_bytes: u64) -> Budget

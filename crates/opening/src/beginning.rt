@@ -3,6 +3,7 @@ use config::Refusal;
 use store::Answer;
 use store::State;
 use store::Step;
+use transfer::step;
 use update::Overlay;
 ghost use Rattle.store.specs.Calls.{begin};
 ghost use Rattle.lending.specs.Lending.{Alone};
@@ -14,10 +15,10 @@ pub fn begin_update(s: State, limited: bool, max_pages: u64, max_bytes: u64) -> 
     let count = s.count;
     let block = s.block;
     if blocks::is_importing(block) {
-        return lending::refuse(s, Refusal::ImportAlreadyStarted);
+        return step::refuse(s, Refusal::ImportAlreadyStarted);
     }
     if s.updating {
-        return lending::refuse(s, Refusal::UpdateBegunTwice);
+        return step::refuse(s, Refusal::UpdateBegunTwice);
     }
     let budget = lending::budget_of(limited, max_pages, max_bytes);
     Step {

@@ -4,6 +4,7 @@ use overlay::Reading;
 use store::Answer;
 use store::State;
 use store::Step;
+use transfer::step;
 ghost use mathlib.Core.Path.{_≡_};
 ghost use lib.ListN.{length};
 ghost use Rattle.update.specs.Laid.{bufs};
@@ -11,8 +12,8 @@ ghost use Rattle.store.specs.Codec.{realCodec};
 ghost use Rattle.store.specs.declared.Answer.the-variants.{Size};
 ghost use Rattle.store.specs.Calls.{fileSize, modeOf};
 ghost use Rattle.store.specs.Store.{full, dirtyIn};
-ghost use Rattle.lending.specs.Lending.{Alone, Reads, readAnswer};
-ghost use Rattle.reading.specs.Views.{framesShort};
+ghost use Rattle.lending.specs.Lending.{Alone, Reads};
+ghost use Rattle.reading.specs.Views.{framesShort, readAnswer};
 
 // Of the update if one is open, else of the image.
 pub fn file_size(s: State) -> u64
@@ -64,10 +65,10 @@ pub fn read_at(
 {
     let count = s.count;
     if !memory::is_lent(mem, count) {
-        return lending::refuse(s, Refusal::BufferTooShort);
+        return step::refuse(s, Refusal::BufferTooShort);
     }
     if lending::are_short(s, frames, numbers, clean, record) {
-        return lending::refuse(s, Refusal::BufferTooShort);
+        return step::refuse(s, Refusal::BufferTooShort);
     }
     let block = s.block;
     let image = image::image_of(block);

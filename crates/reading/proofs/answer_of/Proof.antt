@@ -1,5 +1,5 @@
 use mathlib.Core.Path.{sym, ap}
-use Rattle.lending.specs.Lending.{readAnswer}
+use Rattle.reading.specs.Views.{readAnswer}
 use borrow.Author.Needs.{needs}
 use Rattle.reading.proofs.answer_of.Statement.{statement}
 use Rattle.reading.proofs.answer_of.Tie as tie

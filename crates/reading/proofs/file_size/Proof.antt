@@ -1,5 +1,5 @@
 use mathlib.Core.Path.{sym}
-use Rattle.lending.specs.FirstTests.{size-updating, size-idle}
+use Rattle.reading.specs.ReadCases.{size-updating, size-idle}
 use Rattle.reading.proofs.file_size.Statement.{statement}
 use Rattle.reading.proofs.file_size.Tie as tie
 

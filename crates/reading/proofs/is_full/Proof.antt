@@ -1,6 +1,7 @@
 use mathlib.Core.Path.{sym, _∙_}
 use borrow.Author.Tests.{eq-eqb, ne-eqb}
-use Rattle.lending.specs.FirstTests.{either-true, neither, past-is-short, within-is}
+use Rattle.lending.specs.FirstTests.{either-true, neither}
+use Rattle.reading.specs.ReadCases.{past-is-short, within-is}
 use Rattle.reading.proofs.is_full.Statement.{statement}
 use Rattle.reading.proofs.is_full.Tie as tie
 

@@ -16,7 +16,7 @@ use Rattle.store.specs.Calls.{out}
 use Rattle.store.specs.Store.{full, working}
 use Rattle.transfer.specs.OnMemory.{lent}
 use Rattle.transfer.specs.StoreCases.{refused-as, too-short, is-lent, not-true, not-false}
-use Rattle.lending.specs.FirstTests.{read-memory, read-buffers, read-idle, read-updating}
+use Rattle.reading.specs.ReadCases.{read-memory, read-buffers, read-idle, read-updating}
 use borrow.Author.Needs.{needs}
 use Rattle.reading.proofs.read_at.Statement.{statement}
 use Rattle.reading.proofs.read_at.Tie as tie

@@ -88,6 +88,8 @@ impl Run {
         match act {
             Act::Call(call) => self.call(call).map(Some),
             Act::Lend { seed, room } => {
+                // what is lent no longer is not seen again
+                self.check()?;
                 let buffers = Buffers::noise(*seed, *room);
                 let buffers = match self.model.update {
                     Some(_) => self.library.buffers.longer(&buffers),
@@ -112,6 +114,7 @@ impl Run {
 
     /// What a list leaves in memory can be opened, and gives the state that there was.
     fn reopen(&mut self) -> Held<Outcome> {
+        self.check()?;
         let (memory, buffers) = (self.library.memory.clone(), self.library.buffers.clone());
         let (library, outcome) = Library::open(memory, self.model.count, buffers);
         same("opened again", &outcome, &Outcome::done())?;

@@ -9,7 +9,7 @@ use Rattle.store.specs.declared.Answer.the-variants.{Size}
 use Rattle.store.specs.Calls.{out}
 use Rattle.store.specs.Store.{working}
 use Rattle.transfer.specs.StoreCases.{refused-as}
-use Rattle.lending.specs.FirstTests.{begin-importing, begin-again, begin-done}
+use Rattle.opening.specs.BeginCases.{begin-importing, begin-again, begin-done}
 use borrow.Author.Needs.{needs}
 use Rattle.opening.proofs.beginning.begin_update.Statement.{statement}
 use Rattle.opening.proofs.beginning.begin_update.Tie as tie
