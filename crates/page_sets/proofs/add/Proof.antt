@@ -9,7 +9,7 @@ use Rattle.meta.specs.declared.ZeroExtent.{ZeroExtent}
 use Rattle.meta.specs.Runs.{run, normalized}
 use Rattle.runs.specs.Sets.{merge, maximal}
 use Rattle.runs.specs.Members.{add-none, add-some}
-use Rattle.runs.specs.Flat.{runsIn, out, held, upto, put, write, place}
+use Rattle.runs.specs.Flat.{runsIn, Out, out, held, upto, put, write, place}
 use Rattle.runs.specs.FlatLaws.{walk-normalized, held-add, place-le, find-at, put-step, write-same}
 use borrow.Author.Needs.{needs}
 use Rattle.page_sets.proofs.add.Statement.{statement}
@@ -25,11 +25,11 @@ module _ (w : List ℕ) (n : ℕ) (h : n * 2 + 1 < length w) (f : normalized (ru
     run-added : write w i (x ∷ upto w j n) ≡ held w (maximal (r ∷ runsIn n w))
     run-added = ap (write w i) (sym m) ∙ sym (find-at w n i r e) ∙ ap (write w 0) (sym (add-some r (upto w 0 n) g)) ∙ held-add w n h f r
 
-    some-met : (w′ : List ℕ) → i < j → w′ ≡ put w i x → write w′ (i + 1) (upto w′ j n) ≡ held w (maximal (r ∷ runsIn n w))
-    some-met w′ k q = rw q (sym (put-step w i j n x k)) ∙ run-added
+    some-met : (w′ : List ℕ) (o : Out) → i < j → w′ ≡ put w i x → o ≡ write w′ (i + 1) (upto w′ j n) → o ≡ held w (maximal (r ∷ runsIn n w))
+    some-met w′ o k q t = t ∙ rw q (sym (put-step w i j n x k)) ∙ run-added
 
-    none-met : i ≤ j → j ≤ i → write w i (x ∷ upto w i n) ≡ held w (maximal (r ∷ runsIn n w))
-    none-met k l = let same : i ≡ j = omega arith in ap (λ (t : ℕ). write w i (x ∷ upto w t n)) same ∙ run-added
+    none-met : (o : Out) → i ≤ j → j ≤ i → o ≡ write w i (x ∷ upto w i n) → o ≡ held w (maximal (r ∷ runsIn n w))
+    none-met o k l t = let same : i ≡ j = omega arith in t ∙ ap (λ (k : ℕ). write w i (x ∷ upto w k n)) same ∙ run-added
 
 returns : tie.Need-returns
 returns c =
@@ -66,7 +66,7 @@ returns-2 c =
     let a = s .args in
     let i = c .before .before .before .before .before .before .before .before .before .before .before .before .find in
     let m = c .before .before .before .before .before .before .before .before .before .before .meet in
-    c .before .before .close .ensures ∙ some-met (a .work .now) (a .count) (s .pre .0) (s .pre .1) (run (a .start) (a .end)) (i .result) (m .result .next) (m .result .run) (c .before .before .before .before .before .before .before .before .before .before .before .before .before .before .if1 .left) (i .ensures) (m .ensures .2) _ (c .before .before .before .before .before .before .before .before .if2 .taken) (c .before .before .before .before .before .before .store .ensures)
+    some-met (a .work .now) (a .count) (s .pre .0) (s .pre .1) (run (a .start) (a .end)) (i .result) (m .result .next) (m .result .run) (c .before .before .before .before .before .before .before .before .before .before .before .before .before .before .if1 .left) (i .ensures) (m .ensures .2) _ _ (c .before .before .before .before .before .before .before .before .if2 .taken) (c .before .before .before .before .before .before .store .ensures) (c .before .before .close .ensures)
 
 same-length-2 : tie.Need-same-length-2
 same-length-2 c = search needs
@@ -77,7 +77,7 @@ returns-3 c =
     let a = s .args in
     let i = c .before .before .before .before .before .before .before .before .find in
     let m = c .before .before .before .before .before .before .meet in
-    c .before .before .«open» .ensures ∙ none-met (a .work .now) (a .count) (s .pre .0) (s .pre .1) (run (a .start) (a .end)) (i .result) (m .result .next) (m .result .run) (c .before .before .before .before .before .before .before .before .before .before .if1 .left) (i .ensures) (m .ensures .2) (m .ensures .0) (c .before .before .before .before .if2 .left)
+    none-met (a .work .now) (a .count) (s .pre .0) (s .pre .1) (run (a .start) (a .end)) (i .result) (m .result .next) (m .result .run) (c .before .before .before .before .before .before .before .before .before .before .if1 .left) (i .ensures) (m .ensures .2) _ (m .ensures .0) (c .before .before .before .before .if2 .left) (c .before .before .«open» .ensures)
 
 pub add-spec : {M : Type 1} → statement M
 add-spec =

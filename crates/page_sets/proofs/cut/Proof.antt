@@ -6,7 +6,7 @@ use native.Mathlib.Omega.{arith}
 use Rattle.meta.specs.Runs.{run}
 use Rattle.runs.specs.Sets.{piece}
 use Rattle.runs.specs.Members.{piece-none, piece-some}
-use Rattle.runs.specs.Flat.{put, upto, out, write}
+use Rattle.runs.specs.Flat.{Out, out, put, upto, write}
 use Rattle.runs.specs.FlatLaws.{write-same, write-cons, put-step, upto-put}
 use borrow.Author.Needs.{needs}
 use Rattle.page_sets.proofs.cut.Statement.{statement}
@@ -17,9 +17,9 @@ module _ (w : List ℕ) (i n s p e : ℕ) where
   one-stored : (w′ : List ℕ) (a b : ℕ) → i < n → w′ ≡ put w i (run a b) → out w′ n ≡ write w i (run a b ∷ upto w (i + 1) n)
   one-stored w′ a b h q = rw q (sym (put-step w i (i + 1) n (run a b) (omega arith) ∙ write-same (put w i (run a b)) (i + 1) n (omega arith)))
 
-  both-left : (w′ w″ : List ℕ) (r : ℕ) → s < p → p + 1 < e → w′ ≡ put w i (run s p) → out w″ r ≡ write w′ (i + 1) (run (p + 1) e ∷ upto w′ (i + 1) n)
-      → out w″ r ≡ write w i (piece s p (piece (p + 1) e (upto w (i + 1) n)))
-  both-left w′ w″ r h k q t =
+  both-left : (w′ : List ℕ) (o : Out) → s < p → p + 1 < e → w′ ≡ put w i (run s p) → o ≡ write w′ (i + 1) (run (p + 1) e ∷ upto w′ (i + 1) n)
+      → o ≡ write w i (piece s p (piece (p + 1) e (upto w (i + 1) n)))
+  both-left w′ o h k q t =
       let u = upto w (i + 1) n in
       t ∙ rw (q, upto-put w i (run s p) (i + 1) n (omega arith), piece-some s p (piece (p + 1) e u) h, piece-some (p + 1) e u k, write-cons w i (run s p) (run (p + 1) e ∷ u))
 
@@ -33,8 +33,8 @@ module _ (w : List ℕ) (i n s p e : ℕ) where
       let u = upto w (i + 1) n in
       rw (piece-none s p (piece (p + 1) e u) h, piece-some (p + 1) e u k) (one-stored w′ (p + 1) e g q)
 
-  none-left : p ≤ s → e ≤ p + 1 → write w i (upto w (i + 1) n) ≡ write w i (piece s p (piece (p + 1) e (upto w (i + 1) n)))
-  none-left h k = let u = upto w (i + 1) n in rw (piece-none s p (piece (p + 1) e u) h, piece-none (p + 1) e u k)
+  none-left : (o : Out) → p ≤ s → e ≤ p + 1 → o ≡ write w i (upto w (i + 1) n) → o ≡ write w i (piece s p (piece (p + 1) e (upto w (i + 1) n)))
+  none-left o h k t = let u = upto w (i + 1) n in rw (piece-none s p (piece (p + 1) e u) h, piece-none (p + 1) e u k) t
 
 add-t8 : tie.Need-add-t8
 add-t8 c = search needs
@@ -54,7 +54,7 @@ same-length c = search needs
 returns : tie.Need-returns
 returns c =
     let a = c .before .before .before .before .before .before .before .before .before .before .before .before .before .args in
-    both-left (a .work .now) (a .i) (a .count) (a .x .start) (a .page) (a .x .end) _ _ _ (c .before .before .before .before .before .before .before .before .before .before .if1 .taken) (c .before .before .before .before .if2 .taken) (c .before .before .before .before .before .before .before .before .store .ensures) (c .before .before .«open» .ensures)
+    both-left (a .work .now) (a .i) (a .count) (a .x .start) (a .page) (a .x .end) _ _ (c .before .before .before .before .before .before .before .before .before .before .if1 .taken) (c .before .before .before .before .if2 .taken) (c .before .before .before .before .before .before .before .before .store .ensures) (c .before .before .«open» .ensures)
 
 same-length-2 : tie.Need-same-length-2
 same-length-2 c = search needs
@@ -87,7 +87,7 @@ same-length-4 c = search needs
 returns-4 : tie.Need-returns-4
 returns-4 c =
     let a = c .before .before .before .before .before .before .before .before .before .args in
-    c .before .before .close .ensures ∙ none-left (a .work .now) (a .i) (a .count) (a .x .start) (a .page) (a .x .end) (c .before .before .before .before .before .before .if1 .left) (c .before .before .before .before .if3 .left)
+    none-left (a .work .now) (a .i) (a .count) (a .x .start) (a .page) (a .x .end) _ (c .before .before .before .before .before .before .if1 .left) (c .before .before .before .before .if3 .left) (c .before .before .close .ensures)
 
 pub cut-spec : {M : Type 1} → statement M
 cut-spec =
