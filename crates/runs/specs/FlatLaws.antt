@@ -393,6 +393,9 @@ module _ (w w′ : List ℕ) (n r : ℕ) (h : n * 2 ≤ length w) (f : normalize
       let k : length (maximal (runsIn n w)) ≡ n = ap length (maximal-self (runsIn n w) f) ∙ length-runsIn w n h in
       omega (arith, held-count w w′ r (maximal (x ∷ runsIn n w)) e)
 
+  pub add-within : (x : ZeroExtent) (i : ℕ) → n ≤ i → out w′ r ≡ held w (maximal (x ∷ runsIn n w)) → r ≤ i + 1
+  add-within x i k e = omega (arith, add-count x e)
+
   pub remove-count : (p : ℕ) → out w′ r ≡ held w (maximal (without p (runsIn n w))) → r ≤ n + 1
   remove-count p e = omega (arith, held-count w w′ r (maximal (without p (runsIn n w))) e, maximal-less p (runsIn n w) f, length-runsIn w n h)
 
@@ -436,6 +439,10 @@ laid-cleared n r w l h e =
     let t : numbersOf l ≡ take (r * 2) w = ap numbersOf (sym e) ∙ numbers-runs (take (r * 2) w) r (omega (arith, length-take (r * 2) w)) in
     let c : length l ≡ r = ap length (sym e) ∙ length-runsIn w r h in
     rw (t, c)
+
+-- at most m runs, which were copied in front of the list w and make it w′; w″ is cleared behind them
+pub laid-copied : (w w′ w″ : List ℕ) (r m : ℕ) (l : List ZeroExtent) → length w′ ≡ length w → m * 2 ≤ length w → r ≤ m → runsIn r w′ ≡ l → w″ ≡ padded (length w′) (take (r * 2) w′) → out w″ r ≡ laid (length w) l
+laid-copied w w′ w″ r m l k h g e c = rw (c, k) (laid-cleared (length w) r w′ l (omega arith) e)
 
 -- and are read again
 pub laid-runs : (n : ℕ) (l : List ZeroExtent) → runsIn (length l) (padded n (numbersOf l)) ≡ l

@@ -1,8 +1,6 @@
-use mathlib.Core.Path.{_≡_}
-use native.Mathlib.Omega.{arith}
-use lib.ListN.{length}
+-- The runs gathered, and zeros behind them: a law over plain values.
 use Rattle.runs.specs.Sets.{maximal}
-use Rattle.runs.specs.FlatLaws.{laid-cleared}
+use Rattle.runs.specs.FlatLaws.{laid-copied}
 use Rattle.image_runs.specs.Image.{imageRuns}
 use borrow.Author.Needs.{needs}
 use Rattle.image_runs.proofs.copy_image.Statement.{statement}
@@ -24,8 +22,7 @@ returns : tie.Need-returns
 returns c =
     let a = c .before .before .before .before .before .before .before .before .before .before .args in
     let g = c .before .before .before .before .before .before .gather-image in
-    let k : length (g .last .0) ≡ length (a .work .now) = search needs in
-    cc (laid-cleared (length (a .work .now)) (g .result) (g .last .0) (maximal (imageRuns (a .count) (a .mem .now))) (omega arith) (g .ensures .0))
+    laid-copied (a .work .now) (g .last .0) _ (g .result) 1024 (maximal (imageRuns (a .count) (a .mem .now))) (g .kept .0) (c .before .before .before .before .before .before .before .before .before .before .pre) (g .ensures .1) (g .ensures .0) (c .before .before .clear .ensures)
 
 pub copy-image-spec : {M : Type 1} → statement M
 copy-image-spec = tie.close (tie.spec gather-image-requires mul-clear clear-requires same-length returns)

@@ -24,9 +24,7 @@ read-word-requires-2 : tie.Need-read-word-requires-2
 read-word-requires-2 c κs = search needs
 
 returns : tie.Need-returns
-returns c =
-    let a = c .before .before .before .args in
-    cc
+returns c = rw (c .before .read-word .ensures, c .read-word2 .ensures)
 
 pub read-spec : {M : Type 1} → statement M
 read-spec =

@@ -1,35 +1,41 @@
-use mathlib.Core.Path.{_≡_}
-use mathlib.Core.List.{_∷_}
+-- The runs with start .. end added are those before its place, the run that it makes with those it meets, and those behind: over plain values, as the laws of `write` say.
+use Prim.Native.Nat.{ℕ, _+_, _*_, _≤_, _<_}
+use mathlib.Core.Path.{_≡_, sym, ap, _∙_}
+use mathlib.Core.Bool.{true}
+use mathlib.Core.List.{List, _∷_}
 use native.Mathlib.Omega.{arith}
-use Rattle.meta.specs.Runs.{run}
-use Rattle.runs.specs.Sets.{maximal}
+use lib.ListN.{length}
+use Rattle.meta.specs.declared.ZeroExtent.{ZeroExtent}
+use Rattle.meta.specs.Runs.{run, normalized}
+use Rattle.runs.specs.Sets.{merge, maximal}
 use Rattle.runs.specs.Members.{add-none, add-some}
-use Rattle.runs.specs.Flat.{runsIn, held, upto, write}
+use Rattle.runs.specs.Flat.{runsIn, Out, out, held, upto, put, write, place}
 use Rattle.runs.specs.FlatLaws.{walk-normalized, held-add, place-le, find-at, put-step, write-same}
 use borrow.Author.Needs.{needs}
 use Rattle.page_sets.proofs.add.Statement.{statement}
 use Rattle.page_sets.proofs.add.Tie as tie
 
--- what is to be stored, once the place and the run are known
-core : (c : tie.After-x) →
-    let a = c .before .before .before .before .before .before .before .args in
-    let m = c .before .meet .result in
-    held (a .work .now) (maximal (run (a .start) (a .end) ∷ runsIn (a .count) (a .work .now)))
-    ≡ write (a .work .now) (c .before .before .before .find .result) (m .run ∷ upto (a .work .now) (m .next) (a .count))
-core c =
-    let s = c .before .before .before .before .before .before .before in
-    let a = s .args in
-    let w = a .work .now in
-    let r = run (a .start) (a .end) in
-    let f = c .before .before .before .find in
-    cc (held-add w (a .count) (s .pre .0) (s .pre .1) r, add-some r (upto w 0 (a .count)) (c .before .before .before .before .before .if1 .left), find-at w (a .count) (f .result) r (f .ensures))
+-- the run r added to the n runs in front of w
+module _ (w : List ℕ) (n : ℕ) (h : n * 2 + 1 < length w) (f : normalized (runsIn n w) ≡ true) (r : ZeroExtent) where
+  nothing-added : r .end ≤ r .start → out w n ≡ held w (maximal (r ∷ runsIn n w))
+  nothing-added k = sym (write-same w 0 n (omega arith)) ∙ ap (write w 0) (sym (add-none r (upto w 0 n) k)) ∙ held-add w n h f r
+
+  -- r goes to place i, and makes the run x with those before j
+  module _ (i j : ℕ) (x : ZeroExtent) (g : r .start < r .end) (e : i ≡ place (r .start) (upto w 0 n)) (m : merge r (upto w i n) ≡ x ∷ upto w j n) where
+    run-added : write w i (x ∷ upto w j n) ≡ held w (maximal (r ∷ runsIn n w))
+    run-added = ap (write w i) (sym m) ∙ sym (find-at w n i r e) ∙ ap (write w 0) (sym (add-some r (upto w 0 n) g)) ∙ held-add w n h f r
+
+    some-met : (w′ : List ℕ) (o : Out) → i < j → w′ ≡ put w i x → o ≡ write w′ (i + 1) (upto w′ j n) → o ≡ held w (maximal (r ∷ runsIn n w))
+    some-met w′ o k q t = t ∙ rw q (sym (put-step w i j n x k)) ∙ run-added
+
+    none-met : (o : Out) → i ≤ j → j ≤ i → o ≡ write w i (x ∷ upto w i n) → o ≡ held w (maximal (r ∷ runsIn n w))
+    none-met o k l t = let same : i ≡ j = omega arith in t ∙ ap (λ (k : ℕ). write w i (x ∷ upto w k n)) same ∙ run-added
 
 returns : tie.Need-returns
 returns c =
     let s = c .before .before in
     let a = s .args in
-    let w = a .work .now in
-    cc (held-add w (a .count) (s .pre .0) (s .pre .1) (run (a .start) (a .end)), add-none (run (a .start) (a .end)) (upto w 0 (a .count)) (c .if1 .taken), write-same w 0 (a .count) (omega arith))
+    nothing-added (a .work .now) (a .count) (s .pre .0) (s .pre .1) (run (a .start) (a .end)) (c .if1 .taken)
 
 find-requires : tie.Need-find-requires
 find-requires c κs = (search needs, walk-normalized _ _ (c .before .before .before .pre .0) (c .before .before .before .pre .1))
@@ -37,7 +43,7 @@ find-requires c κs = (search needs, walk-normalized _ _ (c .before .before .bef
 meet-requires : tie.Need-meet-requires
 meet-requires c κs =
     let a = c .before .before .before .before .before .args in
-    omega (arith, place-le (a .work .now) (a .count) (a .start))
+    (rw (c .before .find .ensures) (place-le (a .work .now) (a .count) (a .start)), search needs)
 
 store-requires : tie.Need-store-requires
 store-requires c κs = search needs
@@ -56,20 +62,22 @@ same-length c = search needs
 
 returns-2 : tie.Need-returns-2
 returns-2 c =
-    let x = c .before .before .before .before .before .before .before .before .before in
-    let a = x .before .before .before .before .before .before .before .args in
-    let m = x .before .meet .result in
-    cc (core x, put-step (a .work .now) (x .before .before .before .find .result) (m .next) (a .count) (m .run) (omega arith))
+    let s = c .before .before .before .before .before .before .before .before .before .before .before .before .before .before .before .before in
+    let a = s .args in
+    let i = c .before .before .before .before .before .before .before .before .before .before .before .before .find in
+    let m = c .before .before .before .before .before .before .before .before .before .before .meet in
+    some-met (a .work .now) (a .count) (s .pre .0) (s .pre .1) (run (a .start) (a .end)) (i .result) (m .result .next) (m .result .run) (c .before .before .before .before .before .before .before .before .before .before .before .before .before .before .if1 .left) (i .ensures) (m .ensures .2) _ _ (c .before .before .before .before .before .before .before .before .if2 .taken) (c .before .before .before .before .before .before .store .ensures) (c .before .before .close .ensures)
 
 same-length-2 : tie.Need-same-length-2
 same-length-2 c = search needs
 
 returns-3 : tie.Need-returns-3
 returns-3 c =
-    let x = c .before .before .before .before .before in
-    let m = x .before .meet .result in
-    let e : m .next ≡ x .before .before .before .find .result = omega arith in
-    cc (core x)
+    let s = c .before .before .before .before .before .before .before .before .before .before .before .before in
+    let a = s .args in
+    let i = c .before .before .before .before .before .before .before .before .find in
+    let m = c .before .before .before .before .before .before .meet in
+    none-met (a .work .now) (a .count) (s .pre .0) (s .pre .1) (run (a .start) (a .end)) (i .result) (m .result .next) (m .result .run) (c .before .before .before .before .before .before .before .before .before .before .if1 .left) (i .ensures) (m .ensures .2) _ (m .ensures .0) (c .before .before .before .before .if2 .left) (c .before .before .«open» .ensures)
 
 pub add-spec : {M : Type 1} → statement M
 add-spec =

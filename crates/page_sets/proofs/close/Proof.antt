@@ -1,6 +1,6 @@
+-- To store at `to` the runs from k on is, at every turn, to store at o those from j on.
 use Prim.Native.Nat.{_-_, _≤_}
-use mathlib.Core.Path.{_≡_}
-use native.Mathlib.Omega.{arith}
+use mathlib.Core.Path.{_≡_, sym, _∙_}
 use lib.ListN.{length}
 use Rattle.runs.specs.Flat.{write, upto}
 use Rattle.runs.specs.FlatLaws.{close-step, close-last}
@@ -36,7 +36,8 @@ loop-less c = search needs
 loop-again : tie.Need-loop-again Inv-loop μ-loop
 loop-again c =
     let l = c .before .before .before .before .before .before .before in
-    (search needs, search needs, search needs, cc (close-step (l .loop .work) (l .loop .to) (l .loop .k) (l .before .before .args .count) (omega arith) (omega arith)))
+    let n = l .before .before .args .count in
+    (search needs, search needs, search needs, rw (c .before .before .store .ensures, c .before .before .before .before .read .ensures) (sym (close-step (l .loop .work) (l .loop .to) (l .loop .k) n (l .loop .inv .0) (c .before .before .before .before .before .before .loop-test .taken)) ∙ l .loop .inv .3))
 
 same-length : tie.Need-same-length Inv-loop μ-loop
 same-length c = search needs
@@ -44,7 +45,7 @@ same-length c = search needs
 returns : tie.Need-returns Inv-loop μ-loop
 returns c =
     let l = c .before in
-    cc (close-last (l .loop .work) (l .loop .to) (l .loop .k) (l .before .before .args .count) (omega arith))
+    sym (close-last (l .loop .work) (l .loop .to) (l .loop .k) (l .before .before .args .count) (c .loop-test .left)) ∙ l .loop .inv .3
 
 pub close-spec : {M : Type 1} → statement M
 close-spec =

@@ -1,6 +1,12 @@
-use Prim.Native.Nat.{_+_, _-_, _/_, _≤_, _<_}
+-- The place of the page lies from lo to hi at every turn: a run that ends before the page is before its place, and one that does not is at it or behind it.
+use Prim.Native.Nat.{ℕ, _+_, _-_, _/_, _≤_, _<_}
+use mathlib.Core.Path.{_≡_, refl}
+use mathlib.Core.Bool.{true}
+use mathlib.Core.List.{List}
 use native.Mathlib.Omega.{arith}
-use Rattle.runs.specs.Flat.{upto, place}
+use Rattle.meta.specs.declared.ZeroExtent.{ZeroExtent}
+use Rattle.meta.specs.Runs.{normalized}
+use Rattle.runs.specs.Flat.{at, upto, place}
 use Rattle.runs.specs.FlatLaws.{place-le, place-down, place-up}
 use borrow.Author.Needs.{needs}
 use Rattle.page_sets.proofs.find.Statement.{statement}
@@ -12,10 +18,28 @@ Inv-loop work count page lo₀ hi₀ lo hi = (lo ≤ place page (upto work 0 cou
 abbrev μ-loop : tie.MeasureT-loop
 μ-loop work count page lo₀ hi₀ lo hi = hi - lo
 
+last-below : (n : ℕ) → (n ≡ 0 → ⊥) → n - 1 < n
+last-below n k = omega (arith, k)
+
+middle-below : (lo hi n : ℕ) → lo < hi → hi < n → lo + (hi - lo) / 2 < n
+middle-below lo hi n h k = omega arith
+
+module _ (w : List ℕ) (n p : ℕ) where
+  no-runs : n ≡ 0 → 0 ≡ place p (upto w 0 n)
+  no-runs z = omega (arith, place-le w n p)
+
+  -- run k ends before the page
+  module _ (k : ℕ) (x : ZeroExtent) (h : k < n) (e : x ≡ at w k) (f : normalized (upto w 0 n) ≡ true) (b : x .end < p) where
+    behind : k + 1 ≤ place p (upto w 0 n)
+    behind = omega (arith, place-up w n p k x h e f b)
+
+    behind-last : k ≡ n - 1 → n ≡ place p (upto w 0 n)
+    behind-last z = omega (arith, place-le w n p, behind)
+
 returns : tie.Need-returns Inv-loop μ-loop
 returns c =
     let a = c .before .before .args in
-    omega (arith, place-le (a .work .now) (a .count) (a .page))
+    no-runs (a .work .now) (a .count) (a .page) (c .if1 .taken)
 
 sub-read : tie.Need-sub-read Inv-loop μ-loop
 sub-read c = search needs
@@ -25,9 +49,10 @@ read-requires c κs = search needs
 
 returns-2 : tie.Need-returns-2 Inv-loop μ-loop
 returns-2 c =
-    let a = c .before .before .before .before .before .args in
+    let s = c .before .before .before .before .before in
+    let a = s .args in
     let x = c .before .before .read in
-    omega (arith, place-le (a .work .now) (a .count) (a .page), place-up (a .work .now) (a .count) (a .page) (a .count - 1) (x .result) (omega arith) (x .ensures) (c .before .before .before .before .before .pre .1) (c .if2 .taken))
+    behind-last (a .work .now) (a .count) (a .page) (a .count - 1) (x .result) (last-below (a .count) (c .before .before .before .if1 .left)) (x .ensures) (s .pre .1) (c .if2 .taken) refl
 
 sub-hi : tie.Need-sub-hi Inv-loop μ-loop
 sub-hi c = search needs
@@ -36,7 +61,8 @@ loop-holds : tie.Need-loop-holds Inv-loop μ-loop
 loop-holds c =
     let a = c .before .before .before .before .before .args in
     let x = c .before .before .read in
-    omega (arith, place-down (a .work .now) (a .count) (a .page) (a .count - 1) (x .result) (omega arith) (x .ensures) (c .if2 .left))
+    let h = last-below (a .count) (c .before .before .before .if1 .left) in
+    (search needs, place-down (a .work .now) (a .count) (a .page) (a .count - 1) (x .result) h (x .ensures) (c .if2 .left), h)
 
 sub-mid : tie.Need-sub-mid Inv-loop μ-loop
 sub-mid c = search needs
@@ -59,8 +85,8 @@ loop-again c =
     let s = l .before .before .before .before .before .before in
     let a = s .args in
     let x = c .before .before .read2 in
-    let m = l .loop .lo + (l .loop .hi - l .loop .lo) / 2 in
-    omega (arith, place-up (a .work .now) (a .count) (a .page) m (x .result) (omega arith) (x .ensures) (s .pre .1) (c .if3 .taken))
+    let h = middle-below (l .loop .lo) (l .loop .hi) (a .count) (c .before .before .before .loop-test .taken) (l .loop .inv .2) in
+    (behind (a .work .now) (a .count) (a .page) _ (x .result) h (x .ensures) (s .pre .1) (c .if3 .taken), l .loop .inv .1, l .loop .inv .2)
 
 loop-less-2 : tie.Need-loop-less-2 Inv-loop μ-loop
 loop-less-2 c = search needs
@@ -70,8 +96,8 @@ loop-again-2 c =
     let l = c .before .before .before .before in
     let a = l .before .before .before .before .before .before .args in
     let x = c .before .before .read2 in
-    let m = l .loop .lo + (l .loop .hi - l .loop .lo) / 2 in
-    omega (arith, place-down (a .work .now) (a .count) (a .page) m (x .result) (omega arith) (x .ensures) (c .if3 .left))
+    let h = middle-below (l .loop .lo) (l .loop .hi) (a .count) (c .before .before .before .loop-test .taken) (l .loop .inv .2) in
+    (l .loop .inv .0, place-down (a .work .now) (a .count) (a .page) _ (x .result) h (x .ensures) (c .if3 .left), h)
 
 returns-3 : tie.Need-returns-3 Inv-loop μ-loop
 returns-3 c = search needs

@@ -1,6 +1,6 @@
+-- The run lo .. hi in front of the runs from j on takes up, at every turn, what start .. end takes up of those from i on.
 use Prim.Native.Nat.{_-_, _≤_}
-use mathlib.Core.Path.{_≡_}
-use native.Mathlib.Omega.{arith}
+use mathlib.Core.Path.{_≡_, _∙_}
 use Rattle.meta.specs.Runs.{run}
 use Rattle.runs.specs.Sets.{merge}
 use Rattle.runs.specs.Flat.{upto}
@@ -26,7 +26,8 @@ returns : tie.Need-returns Inv-loop μ-loop
 returns c =
     let l = c .before .before .before .before in
     let a = l .before .before .args in
-    (search needs, search needs, cc (meet-here (a .work .now) (l .loop .j) (a .count) (run (l .loop .lo) (l .loop .hi)) (c .before .before .read .result) (omega arith) (c .before .before .read .ensures) (c .if1 .taken)))
+    let x = c .before .before .read in
+    (l .loop .inv .0, l .loop .inv .1, l .loop .inv .2 ∙ meet-here (a .work .now) (l .loop .j) (a .count) (run (l .loop .lo) (l .loop .hi)) (x .result) (c .before .before .before .loop-test .taken) (x .ensures) (c .if1 .taken))
 
 least-requires : tie.Need-least-requires Inv-loop μ-loop
 least-requires c κs = search needs
@@ -44,13 +45,14 @@ loop-again : tie.Need-loop-again Inv-loop μ-loop
 loop-again c =
     let l = c .before .before .before .before .before .before in
     let a = l .before .before .args in
-    (search needs, search needs, cc (meet-step (a .work .now) (l .loop .j) (a .count) (run (l .loop .lo) (l .loop .hi)) (c .before .before .before .before .read .result) (omega arith) (c .before .before .before .before .read .ensures) (c .before .before .if1 .left)))
+    let x = c .before .before .before .before .read in
+    (search needs, search needs, l .loop .inv .2 ∙ meet-step (a .work .now) (l .loop .j) (a .count) (run (l .loop .lo) (l .loop .hi)) (x .result) (c .before .before .before .before .before .loop-test .taken) (x .ensures) (c .before .before .if1 .left) ∙ rw (c .before .least .ensures, c .most .ensures))
 
 returns-2 : tie.Need-returns-2 Inv-loop μ-loop
 returns-2 c =
     let l = c .before in
     let a = l .before .before .args in
-    (search needs, search needs, cc (meet-last (a .work .now) (l .loop .j) (a .count) (run (l .loop .lo) (l .loop .hi)) (omega arith)))
+    (l .loop .inv .0, l .loop .inv .1, l .loop .inv .2 ∙ meet-last (a .work .now) (l .loop .j) (a .count) (run (l .loop .lo) (l .loop .hi)) (c .loop-test .left))
 
 pub meet-spec : {M : Type 1} → statement M
 meet-spec =

@@ -1,9 +1,11 @@
-use Prim.Native.Nat.{_-_, _≤_}
-use mathlib.Core.Path.{_≡_}
-use mathlib.Core.List.{_∷_}
+-- To store the run carried and those from k on is, at every turn, to store x and the runs from i on.
+use Prim.Native.Nat.{ℕ, _+_, _-_, _≤_}
+use mathlib.Core.Path.{_≡_, sym, _∙_}
+use mathlib.Core.List.{List, _∷_}
 use native.Mathlib.Omega.{arith}
 use lib.ListN.{length}
-use Rattle.runs.specs.Flat.{write, upto}
+use Rattle.meta.specs.declared.ZeroExtent.{ZeroExtent}
+use Rattle.runs.specs.Flat.{Out, out, put, write, upto}
 use Rattle.runs.specs.FlatLaws.{open-step, open-last}
 use borrow.Author.Needs.{needs}
 use Rattle.page_sets.proofs.open.Statement.{statement}
@@ -15,6 +17,10 @@ Inv-loop work₀ count i k₀ carry₀ work k carry =
 
 abbrev μ-loop : tie.MeasureT-loop
 μ-loop work₀ count i k₀ carry₀ work k carry = count - k
+
+-- the last run carried goes behind all others
+carried-last : (w w′ : List ℕ) (k n : ℕ) (c : ZeroExtent) (o : Out) → k ≤ n → n ≤ k → w′ ≡ put w n c → write w k (c ∷ upto w k n) ≡ o → out w′ (n + 1) ≡ o
+carried-last w w′ k n c o g h p e = let same : n ≡ k = omega arith in rw (p, same) (sym (open-last w k n c h) ∙ e)
 
 loop-holds : tie.Need-loop-holds Inv-loop μ-loop
 loop-holds c = search needs
@@ -34,7 +40,8 @@ loop-less c = search needs
 loop-again : tie.Need-loop-again Inv-loop μ-loop
 loop-again c =
     let l = c .before .before .before .before .before .before .before in
-    (search needs, search needs, cc (open-step (l .loop .work) (l .loop .k) (l .before .before .args .count) (l .loop .carry) (omega arith)))
+    let n = l .before .before .args .count in
+    (search needs, search needs, rw (c .before .before .store .ensures, c .before .before .before .before .read .ensures) (sym (open-step (l .loop .work) (l .loop .k) n (l .loop .carry) (c .before .before .before .before .before .before .loop-test .taken)) ∙ l .loop .inv .2))
 
 store-requires-2 : tie.Need-store-requires-2 Inv-loop μ-loop
 store-requires-2 c κs = search needs
@@ -48,8 +55,7 @@ same-length c = search needs
 returns : tie.Need-returns Inv-loop μ-loop
 returns c =
     let l = c .before .before .before .before .before in
-    let e : l .loop .k ≡ l .before .before .args .count = omega arith in
-    cc (open-last (l .loop .work) (l .loop .k) (l .before .before .args .count) (l .loop .carry) (omega arith))
+    carried-last (l .loop .work) _ (l .loop .k) (l .before .before .args .count) (l .loop .carry) _ (l .loop .inv .0) (c .before .before .before .before .loop-test .left) (c .before .before .store2 .ensures) (l .loop .inv .2)
 
 pub open-spec : {M : Type 1} → statement M
 open-spec =

@@ -1,6 +1,6 @@
+-- What stands before k, with zeros behind it to the end, is what stood before `from`, with zeros behind it.
 use Prim.Native.Nat.{_-_}
-use mathlib.Core.Path.{_≡_}
-use native.Mathlib.Omega.{arith}
+use mathlib.Core.Path.{_≡_, sym, _∙_}
 use lib.ListN.{length, take}
 use Rattle.runs.specs.Flat.{padded}
 use Rattle.runs.specs.FlatLaws.{clear-step, clear-last}
@@ -32,7 +32,8 @@ loop-less c = search needs
 loop-again : tie.Need-loop-again Inv-loop μ-loop
 loop-again c =
     let l = c .before in
-    (search needs, cc (clear-step (length (l .before .args .work .now)) (l .loop .k) (l .loop .work) (search needs) (omega arith)))
+    let n = length (l .before .args .work .now) in
+    (search needs, clear-step n (l .loop .k) (l .loop .work) (l .loop .inv .0) (rw (l .loop .inv .0) at (c .loop-test .taken)) ∙ l .loop .inv .1)
 
 same-length : tie.Need-same-length Inv-loop μ-loop
 same-length c = search needs
@@ -40,7 +41,8 @@ same-length c = search needs
 returns : tie.Need-returns Inv-loop μ-loop
 returns c =
     let l = c .before in
-    cc (clear-last (length (l .before .args .work .now)) (l .loop .k) (l .loop .work) (search needs) (omega arith))
+    let n = length (l .before .args .work .now) in
+    sym (clear-last n (l .loop .k) (l .loop .work) (l .loop .inv .0) (rw (l .loop .inv .0) at (c .loop-test .left))) ∙ l .loop .inv .1
 
 pub clear-spec : {M : Type 1} → statement M
 clear-spec =
