@@ -62,22 +62,24 @@ same-length c = search needs
 
 returns-2 : tie.Need-returns-2
 returns-2 c =
-    let s = c .before .before .before .before .before .before .before .before .before .before .before .before .before .before .before .before in
+    let t = c .before .before .before .before .before .before .before .before in
+    let m = t .before .before .meet in
+    let i = t .before .before .before .before .find in
+    let s = t .before .before .before .before .before .before .before .before in
     let a = s .args in
-    let i = c .before .before .before .before .before .before .before .before .before .before .before .before .find in
-    let m = c .before .before .before .before .before .before .before .before .before .before .meet in
-    some-met (a .work .now) (a .count) (s .pre .0) (s .pre .1) (run (a .start) (a .end)) (i .result) (m .result .next) (m .result .run) (c .before .before .before .before .before .before .before .before .before .before .before .before .before .before .if1 .left) (i .ensures) (m .ensures .2) _ _ (c .before .before .before .before .before .before .before .before .if2 .taken) (c .before .before .before .before .before .before .store .ensures) (c .before .before .close .ensures)
+    some-met (a .work .now) (a .count) (s .pre .0) (s .pre .1) (run (a .start) (a .end)) (i .result) (m .result .next) (m .result .run) (t .before .before .before .before .before .before .if1 .left) (i .ensures) (m .ensures .2) _ _ (t .if2 .taken) (c .before .before .before .before .before .before .store .ensures) (c .before .before .close .ensures)
 
 same-length-2 : tie.Need-same-length-2
 same-length-2 c = search needs
 
 returns-3 : tie.Need-returns-3
 returns-3 c =
-    let s = c .before .before .before .before .before .before .before .before .before .before .before .before in
+    let t = c .before .before .before .before in
+    let m = t .before .before .meet in
+    let i = t .before .before .before .before .find in
+    let s = t .before .before .before .before .before .before .before .before in
     let a = s .args in
-    let i = c .before .before .before .before .before .before .before .before .find in
-    let m = c .before .before .before .before .before .before .meet in
-    none-met (a .work .now) (a .count) (s .pre .0) (s .pre .1) (run (a .start) (a .end)) (i .result) (m .result .next) (m .result .run) (c .before .before .before .before .before .before .before .before .before .before .if1 .left) (i .ensures) (m .ensures .2) _ (m .ensures .0) (c .before .before .before .before .if2 .left) (c .before .before .«open» .ensures)
+    none-met (a .work .now) (a .count) (s .pre .0) (s .pre .1) (run (a .start) (a .end)) (i .result) (m .result .next) (m .result .run) (t .before .before .before .before .before .before .if1 .left) (i .ensures) (m .ensures .2) _ (m .ensures .0) (t .if2 .left) (c .before .before .«open» .ensures)
 
 pub add-spec : {M : Type 1} → statement M
 add-spec =

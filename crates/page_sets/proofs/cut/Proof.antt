@@ -53,16 +53,19 @@ same-length c = search needs
 
 returns : tie.Need-returns
 returns c =
-    let a = c .before .before .before .before .before .before .before .before .before .before .before .before .before .args in
-    both-left (a .work .now) (a .i) (a .count) (a .x .start) (a .page) (a .x .end) _ _ (c .before .before .before .before .before .before .before .before .before .before .if1 .taken) (c .before .before .before .before .if2 .taken) (c .before .before .before .before .before .before .before .before .store .ensures) (c .before .before .«open» .ensures)
+    let t = c .before .before .before .before .before .before .before .before .before .before in
+    let a = t .before .before .before .args in
+    both-left (a .work .now) (a .i) (a .count) (a .x .start) (a .page) (a .x .end) _ _ (t .if1 .taken) (c .before .before .before .before .if2 .taken) (c .before .before .before .before .before .before .before .before .store .ensures) (c .before .before .«open» .ensures)
 
 same-length-2 : tie.Need-same-length-2
 same-length-2 c = search needs
 
 returns-2 : tie.Need-returns-2
 returns-2 c =
-    let a = c .before .before .before .before .before .before .before .before .before .args in
-    first-left (a .work .now) (a .i) (a .count) (a .x .start) (a .page) (a .x .end) _ (c .before .before .before .before .before .before .before .before .before .pre .0) (c .before .before .before .before .before .before .if1 .taken) (c .if2 .left) (c .before .before .before .before .store .ensures)
+    let t = c .before .before .before .before .before .before in
+    let s = t .before .before .before in
+    let a = s .args in
+    first-left (a .work .now) (a .i) (a .count) (a .x .start) (a .page) (a .x .end) _ (s .pre .0) (t .if1 .taken) (c .if2 .left) (c .before .before .before .before .store .ensures)
 
 store-requires-2 : tie.Need-store-requires-2
 store-requires-2 c κs = search needs
@@ -72,8 +75,10 @@ same-length-3 c = search needs
 
 returns-3 : tie.Need-returns-3
 returns-3 c =
-    let a = c .before .before .before .before .before .before .before .before .before .args in
-    second-left (a .work .now) (a .i) (a .count) (a .x .start) (a .page) (a .x .end) _ (c .before .before .before .before .before .before .before .before .before .pre .0) (c .before .before .before .before .before .before .if1 .left) (c .before .before .before .before .if3 .taken) (c .before .before .store2 .ensures)
+    let t = c .before .before .before .before .before .before in
+    let s = t .before .before .before in
+    let a = s .args in
+    second-left (a .work .now) (a .i) (a .count) (a .x .start) (a .page) (a .x .end) _ (s .pre .0) (t .if1 .left) (c .before .before .before .before .if3 .taken) (c .before .before .store2 .ensures)
 
 add-close : tie.Need-add-close
 add-close c = search needs
@@ -86,8 +91,9 @@ same-length-4 c = search needs
 
 returns-4 : tie.Need-returns-4
 returns-4 c =
-    let a = c .before .before .before .before .before .before .before .before .before .args in
-    none-left (a .work .now) (a .i) (a .count) (a .x .start) (a .page) (a .x .end) _ (c .before .before .before .before .before .before .if1 .left) (c .before .before .before .before .if3 .left) (c .before .before .close .ensures)
+    let t = c .before .before .before .before .before .before in
+    let a = t .before .before .before .args in
+    none-left (a .work .now) (a .i) (a .count) (a .x .start) (a .page) (a .x .end) _ (t .if1 .left) (c .before .before .before .before .if3 .left) (c .before .before .close .ensures)
 
 pub cut-spec : {M : Type 1} → statement M
 cut-spec =

@@ -16,6 +16,7 @@ use Rattle.page_sets.proofs.remove.Tie as tie
 
 -- page p, whose place among the n runs in front of w is i
 module _ (w : List ℕ) (n i p : ℕ) (e : i ≡ place p (upto w 0 n)) where
+  -- what stands there is one of the runs
   is-run : (i ≡ n → ⊥) → i < n
   is-run k = omega (arith, k, place-le w n p)
 
@@ -34,10 +35,10 @@ same-length c = search needs
 
 returns : tie.Need-returns
 returns c =
+    let i = c .before .find in
     let s = c .before .before .before .before in
     let a = s .args in
-    let f = c .before .find in
-    removed (a .work .now) (a .count) (f .result) (a .page) (f .ensures) (s .pre .0) (s .pre .1) _ (page-none (a .work .now) (f .result) (a .count) (a .page) (c .if1 .taken))
+    removed (a .work .now) (a .count) (i .result) (a .page) (i .ensures) (s .pre .0) (s .pre .1) _ (page-none (a .work .now) (i .result) (a .count) (a .page) (c .if1 .taken))
 
 read-requires : tie.Need-read-requires
 read-requires c κs =
@@ -49,40 +50,44 @@ same-length-2 c = search needs
 
 returns-2 : tie.Need-returns-2
 returns-2 c =
-    let s = c .before .before .before .before .before .before .before .before in
+    let t = c .before .before .before .before in
+    let i = t .before .find in
+    let s = t .before .before .before .before in
     let a = s .args in
-    let f = c .before .before .before .before .before .find in
     let x = c .before .before .read in
-    removed (a .work .now) (a .count) (f .result) (a .page) (f .ensures) (s .pre .0) (s .pre .1) _ (page-behind (a .work .now) (f .result) (a .count) (a .page) (x .result) (is-run (a .work .now) (a .count) (f .result) (a .page) (f .ensures) (c .before .before .before .before .if1 .left)) (x .ensures) (walk-normalized (a .work .now) (a .count) (s .pre .0) (s .pre .1)) (f .ensures) (c .if2 .taken))
+    removed (a .work .now) (a .count) (i .result) (a .page) (i .ensures) (s .pre .0) (s .pre .1) _ (page-behind (a .work .now) (i .result) (a .count) (a .page) (x .result) (is-run (a .work .now) (a .count) (i .result) (a .page) (i .ensures) (t .if1 .left)) (x .ensures) (walk-normalized (a .work .now) (a .count) (s .pre .0) (s .pre .1)) (i .ensures) (c .if2 .taken))
 
 same-length-3 : tie.Need-same-length-3
 same-length-3 c = search needs
 
 returns-3 : tie.Need-returns-3
 returns-3 c =
-    let s = c .before .before .before .before .before .before .before .before .before .before in
+    let t = c .before .before .before .before .before .before in
+    let i = t .before .find in
+    let s = t .before .before .before .before in
     let a = s .args in
-    let f = c .before .before .before .before .before .before .before .find in
     let x = c .before .before .before .before .read in
-    removed (a .work .now) (a .count) (f .result) (a .page) (f .ensures) (s .pre .0) (s .pre .1) _ (page-before (a .work .now) (f .result) (a .count) (a .page) (x .result) (is-run (a .work .now) (a .count) (f .result) (a .page) (f .ensures) (c .before .before .before .before .before .before .if1 .left)) (x .ensures) (c .if3 .taken) (c .before .before .if2 .left))
+    removed (a .work .now) (a .count) (i .result) (a .page) (i .ensures) (s .pre .0) (s .pre .1) _ (page-before (a .work .now) (i .result) (a .count) (a .page) (x .result) (is-run (a .work .now) (a .count) (i .result) (a .page) (i .ensures) (t .if1 .left)) (x .ensures) (c .if3 .taken) (c .before .before .if2 .left))
 
 cut-requires : tie.Need-cut-requires
 cut-requires c κs =
-    let s = c .before .before .before .before .before .before .before .before .before .before .before in
+    let t = c .before .before .before .before .before .before .before in
+    let i = t .before .find in
+    let s = t .before .before .before .before in
     let a = s .args in
-    let f = c .before .before .before .before .before .before .before .before .find in
-    (is-run (a .work .now) (a .count) (f .result) (a .page) (f .ensures) (c .before .before .before .before .before .before .before .if1 .left), s .pre .0, c .before .if3 .left, c .before .before .before .if2 .left)
+    (is-run (a .work .now) (a .count) (i .result) (a .page) (i .ensures) (t .if1 .left), s .pre .0, c .before .if3 .left, c .before .before .before .if2 .left)
 
 same-length-4 : tie.Need-same-length-4
 same-length-4 c = search needs
 
 returns-4 : tie.Need-returns-4
 returns-4 c =
-    let s = c .before .before .before .before .before .before .before .before .before .before .before .before .before .before in
+    let t = c .before .before .before .before .before .before .before .before .before .before in
+    let i = t .before .find in
+    let s = t .before .before .before .before in
     let a = s .args in
-    let f = c .before .before .before .before .before .before .before .before .before .before .before .find in
     let x = c .before .before .before .before .before .before .before .before .read in
-    cut-out (a .work .now) (a .count) (f .result) (a .page) (f .ensures) (s .pre .0) (s .pre .1) _ (x .result) (is-run (a .work .now) (a .count) (f .result) (a .page) (f .ensures) (c .before .before .before .before .before .before .before .before .before .before .if1 .left)) (x .ensures) (c .before .before .before .before .if3 .left) (c .before .before .before .before .before .before .if2 .left) (c .before .before .cut .ensures)
+    cut-out (a .work .now) (a .count) (i .result) (a .page) (i .ensures) (s .pre .0) (s .pre .1) _ (x .result) (is-run (a .work .now) (a .count) (i .result) (a .page) (i .ensures) (t .if1 .left)) (x .ensures) (c .before .before .before .before .if3 .left) (c .before .before .before .before .before .before .if2 .left) (c .before .before .cut .ensures)
 
 pub remove-spec : {M : Type 1} → statement M
 remove-spec =
