@@ -1,6 +1,6 @@
 -- The rows on a fresh image: computed, at the real sizes and with the real superblock.
-use mathlib.Core.Path.{_≡_, refl}
-use Prim.Native.Nat.{ℕ, _+_, _-_, _*_, _/_, _≤_, _<_}
+use mathlib.Core.Path.{_≡_, refl, ap}
+use Prim.Native.Nat.{ℕ, zero, suc, _+_, _*_, _/_, _≤_, _<_}
 use native.Mathlib.Omega.{arith}
 use mathlib.Core.Bool.{false, not}
 use mathlib.Core.List.{List, [], _∷_}
@@ -113,26 +113,44 @@ abbrev pub Right : List Row → Type 0
 Right [] = Unit {0}
 Right (r ∷ rs) = (look (after (opened (r .lent)) (r .calls)) ≡ r .shows) × Right rs
 
--- each row is computed for itself
-row1 : look (after (opened 2) (begin false 0 0 ∷ write 16384 (7 ∷ []) ∷ [])) ≡ (seen 0 16385 (0 ∷ 2 ∷ []) (1 ∷ []) [] 1 [])
-unfolding count zeros overwrite resize growMemory requiredPages normalized word wordAt mixed step fold fnv1a64 header headerOf blockBytes encode fieldsIn decode encodedLen prefix checksumOf seal storeIn freshBlock blockRuns checksumIn judgeBlock loadBlock imageCount imageNumbers within merge insert add around piece remove flatRuns put refill tabulate addNumberIf span grownNumbers imageByte imagePage pushRun raw overByte budgetBytes raised touch blank copy stretch patch finish grow growTo chop tail truncated wholePage overWrite written fresh lookUp sized passing marked tryTouch tryPatch tryFinish tryGrow tryGrowTo tryTail tryChop tryTruncate tryWrite frameCount entryCount wiped cached shortBuffers view overlayOf putBack stored realCodec importing stale refreshing marks afterCommit short storePlan noOverlay imageBytes unchanged plannedRuns commitOver store outside open′ additions lentFresh opened
-row1 = refl
+-- what is seen after each call
+abbrev trace : Out → List Call → List Seen
+trace x [] = []
+trace x (c ∷ cs) = let y : Out = real (x .state) (x .lent) c in look y ∷ trace y cs
 
-row2 : look (after (opened 2) (begin false 0 0 ∷ write 16384 (7 ∷ []) ∷ commit ∷ [])) ≡ (seen 0 16385 [] [] (0 ∷ 1 ∷ []) 2 [])
-unfolding count zeros overwrite resize growMemory requiredPages normalized word wordAt mixed step fold fnv1a64 header headerOf blockBytes encode fieldsIn decode encodedLen prefix checksumOf seal storeIn freshBlock blockRuns checksumIn judgeBlock loadBlock imageCount imageNumbers within merge insert add around piece remove flatRuns put refill tabulate addNumberIf span grownNumbers imageByte imagePage pushRun raw overByte budgetBytes raised touch blank copy stretch patch finish grow growTo chop tail truncated wholePage overWrite written fresh lookUp sized passing marked tryTouch tryPatch tryFinish tryGrow tryGrowTo tryTail tryChop tryTruncate tryWrite frameCount entryCount wiped cached shortBuffers view overlayOf putBack stored realCodec importing stale refreshing marks afterCommit short storePlan noOverlay imageBytes unchanged plannedRuns commitOver store outside open′ additions lentFresh opened
-row2 = refl
+abbrev seenAt : ℕ → List Seen → Seen
+seenAt i [] = seen 0 0 [] [] [] 0 []
+seenAt zero (s ∷ l) = s
+seenAt (suc i) (s ∷ l) = seenAt i l
 
+-- four rows are one list of calls, computed once
+first : trace (opened 2) (begin false 0 0 ∷ write 16384 (7 ∷ []) ∷ commit ∷ truncate 16384 ∷ truncate 16385 ∷ read 16384 (9 ∷ []) ∷ [])
+    ≡ seen 0 0 [] [] [] 1 []
+    ∷ seen 0 16385 (0 ∷ 2 ∷ []) (1 ∷ []) [] 1 []
+    ∷ seen 0 16385 [] [] (0 ∷ 1 ∷ []) 2 []
+    ∷ seen 0 16384 [] [] (0 ∷ 2 ∷ []) 2 []
+    ∷ seen 0 16385 [] [] (0 ∷ 1 ∷ []) 2 []
+    ∷ seen 0 16385 [] [] (0 ∷ 1 ∷ []) 2 (0 ∷ [])
+    ∷ []
+unfolding count zeros overwrite resize growMemory requiredPages normalized word wordAt mixed step fold fnv1a64 header headerOf blockBytes encode fieldsIn decode encodedLen prefix checksumOf seal storeIn freshBlock blockRuns checksumIn judgeBlock loadBlock imageCount imageNumbers within merge insert add around piece remove flatRuns put refill tabulate addNumberIf span grownNumbers imageByte imagePage pushRun raw overByte budgetBytes raised touch blank copy stretch patch finish grow growTo chop tail truncated wholePage overWrite written fresh lookUp sized passing marked tryTouch tryPatch tryFinish tryGrow tryGrowTo tryTail tryChop tryTruncate tryWrite frameCount entryCount wiped cached shortBuffers view overlayOf putBack stored realCodec importing stale refreshing marks afterCommit short storePlan noOverlay imageBytes unchanged plannedRuns commitOver store outside open′ additions lentFresh opened
+first = refl
+
+row1 : look (after (opened 2) (begin false 0 0 ∷ write 16384 (7 ∷ []) ∷ [])) ≡ seen 0 16385 (0 ∷ 2 ∷ []) (1 ∷ []) [] 1 []
+row1 = ap (seenAt 1) first
+
+row2 : look (after (opened 2) (begin false 0 0 ∷ write 16384 (7 ∷ []) ∷ commit ∷ [])) ≡ seen 0 16385 [] [] (0 ∷ 1 ∷ []) 2 []
+row2 = ap (seenAt 2) first
+
+row4 : look (after (opened 2) (begin false 0 0 ∷ write 16384 (7 ∷ []) ∷ commit ∷ truncate 16384 ∷ [])) ≡ seen 0 16384 [] [] (0 ∷ 2 ∷ []) 2 []
+row4 = ap (seenAt 3) first
+
+row5 : look (after (opened 2) (begin false 0 0 ∷ write 16384 (7 ∷ []) ∷ commit ∷ truncate 16384 ∷ truncate 16385 ∷ read 16384 (9 ∷ []) ∷ [])) ≡ seen 0 16385 [] [] (0 ∷ 1 ∷ []) 2 (0 ∷ [])
+row5 = ap (seenAt 5) first
+
+-- the others are computed each for itself
 row3 : look (after (opened 2) (write 0 (7 ∷ []) ∷ [])) ≡ (seen 0 1 [] [] [] 2 [])
 unfolding count zeros overwrite resize growMemory requiredPages normalized word wordAt mixed step fold fnv1a64 header headerOf blockBytes encode fieldsIn decode encodedLen prefix checksumOf seal storeIn freshBlock blockRuns checksumIn judgeBlock loadBlock imageCount imageNumbers within merge insert add around piece remove flatRuns put refill tabulate addNumberIf span grownNumbers imageByte imagePage pushRun raw overByte budgetBytes raised touch blank copy stretch patch finish grow growTo chop tail truncated wholePage overWrite written fresh lookUp sized passing marked tryTouch tryPatch tryFinish tryGrow tryGrowTo tryTail tryChop tryTruncate tryWrite frameCount entryCount wiped cached shortBuffers view overlayOf putBack stored realCodec importing stale refreshing marks afterCommit short storePlan noOverlay imageBytes unchanged plannedRuns commitOver store outside open′ additions lentFresh opened
 row3 = refl
-
-row4 : look (after (opened 2) (begin false 0 0 ∷ write 16384 (7 ∷ []) ∷ commit ∷ truncate 16384 ∷ [])) ≡ (seen 0 16384 [] [] (0 ∷ 2 ∷ []) 2 [])
-unfolding count zeros overwrite resize growMemory requiredPages normalized word wordAt mixed step fold fnv1a64 header headerOf blockBytes encode fieldsIn decode encodedLen prefix checksumOf seal storeIn freshBlock blockRuns checksumIn judgeBlock loadBlock imageCount imageNumbers within merge insert add around piece remove flatRuns put refill tabulate addNumberIf span grownNumbers imageByte imagePage pushRun raw overByte budgetBytes raised touch blank copy stretch patch finish grow growTo chop tail truncated wholePage overWrite written fresh lookUp sized passing marked tryTouch tryPatch tryFinish tryGrow tryGrowTo tryTail tryChop tryTruncate tryWrite frameCount entryCount wiped cached shortBuffers view overlayOf putBack stored realCodec importing stale refreshing marks afterCommit short storePlan noOverlay imageBytes unchanged plannedRuns commitOver store outside open′ additions lentFresh opened
-row4 = refl
-
-row5 : look (after (opened 2) (begin false 0 0 ∷ write 16384 (7 ∷ []) ∷ commit ∷ truncate 16384 ∷ truncate 16385 ∷ read 16384 (9 ∷ []) ∷ [])) ≡ (seen 0 16385 [] [] (0 ∷ 1 ∷ []) 2 (0 ∷ []))
-unfolding count zeros overwrite resize growMemory requiredPages normalized word wordAt mixed step fold fnv1a64 header headerOf blockBytes encode fieldsIn decode encodedLen prefix checksumOf seal storeIn freshBlock blockRuns checksumIn judgeBlock loadBlock imageCount imageNumbers within merge insert add around piece remove flatRuns put refill tabulate addNumberIf span grownNumbers imageByte imagePage pushRun raw overByte budgetBytes raised touch blank copy stretch patch finish grow growTo chop tail truncated wholePage overWrite written fresh lookUp sized passing marked tryTouch tryPatch tryFinish tryGrow tryGrowTo tryTail tryChop tryTruncate tryWrite frameCount entryCount wiped cached shortBuffers view overlayOf putBack stored realCodec importing stale refreshing marks afterCommit short storePlan noOverlay imageBytes unchanged plannedRuns commitOver store outside open′ additions lentFresh opened
-row5 = refl
 
 row6 : look (after (opened 1) (truncate 18446744073709486080 ∷ [])) ≡ (seen 20 0 [] [] [] 1 [])
 unfolding count zeros overwrite resize growMemory requiredPages normalized word wordAt mixed step fold fnv1a64 header headerOf blockBytes encode fieldsIn decode encodedLen prefix checksumOf seal storeIn freshBlock blockRuns checksumIn judgeBlock loadBlock imageCount imageNumbers within merge insert add around piece remove flatRuns put refill tabulate addNumberIf span grownNumbers imageByte imagePage pushRun raw overByte budgetBytes raised touch blank copy stretch patch finish grow growTo chop tail truncated wholePage overWrite written fresh lookUp sized passing marked tryTouch tryPatch tryFinish tryGrow tryGrowTo tryTail tryChop tryTruncate tryWrite frameCount entryCount wiped cached shortBuffers view overlayOf putBack stored realCodec importing stale refreshing marks afterCommit short storePlan noOverlay imageBytes unchanged plannedRuns commitOver store outside open′ additions lentFresh opened

@@ -1,13 +1,11 @@
 -- The examples of the scope document (01) that it marks as proved: one table, one theorem.
 use mathlib.Core.Path.{_≡_}
-use Prim.Native.Nat.{ℕ, _-_, _*_, _≤_}
+use Prim.Native.Nat.{ℕ, _*_, _≤_}
 use mathlib.Core.List.{List, [], _∷_}
 use lib.ListN.{length}
 use Rattle.fnv.specs.Fnv.{basis, fnv1a64, fnv-of-none}
 use Rattle.meta.specs.Runs.{run}
-use Rattle.update.specs.Update.{accepted, written, fresh}
 use Rattle.store.specs.Calls.{write, truncate}
-use Rattle.store.specs.Store.{image}
 use Rattle.examples.specs.FreshRows.{opened, freshRows, Right, ByLastPage, last-page, fresh-right}
 use Rattle.examples.specs.RunRows.{single, AfterOpening, grown31, page0, split31}
 
