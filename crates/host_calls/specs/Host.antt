@@ -24,7 +24,7 @@ use Rattle.plain_file.specs.Sizes.{short′, plainOf, plainStep′, Word′, Le
 use Rattle.plain_file.specs.Demand3.{demand3}
 use Rattle.host_calls.specs.Made.{Made, ByC, AllByC}
 use Rattle.host_calls.specs.CCalls.{CCall, madeAll, all-by-c, COpened, statePassed, memoryPassed, countPassed, answerPassed, stateLeft, memoryLeft, answerLeft, open-by-c, open-typed}
-use Rattle.host_calls.specs.HostClaim.{Untouched, live, plainAfter, HostPromise}
+use Rattle.host_calls.specs.HostClaim.{Untouched, live, tooLittle, plainAfter, HostPromise}
 use Rattle.host_calls.specs.Seen.{Seen, seen, untouched-short, untouched-35, owed-seen, enough-seen}
 
 -- a call whose answer has no room does what a question for the size does: nothing
@@ -69,6 +69,20 @@ pub record Back : Type 0 where
 abbrev after : Plain → Call → Lent → Back → Plain
 after p c l y = plainStep′ p c (record { number = y .number; length = length (l .mem); after = y .lent .mem })
 
+-- whether the call was lent too little, by the tests
+module _ (st : List ℕ) (e : Made) where
+  abbrev asks : Bool → Bool
+  asks z = z || short′ (stateIn st) (e .lent) (e .call)
+
+  no-answer : ltb (length (e .answer)) 4 ≡ true → tooLittle st e ≡ true
+  no-answer t = ap asks t
+
+  too-short : ltb (length (e .answer)) 4 ≡ false → short′ (stateIn st) (e .lent) (e .call) ≡ true → tooLittle st e ≡ true
+  too-short f t = ap asks f ∙ t
+
+  long-enough : ltb (length (e .answer)) 4 ≡ false → short′ (stateIn st) (e .lent) (e .call) ≡ false → tooLittle st e ≡ false
+  long-enough f k = ap asks f ∙ k
+
 -- from any state's bytes, any plain file and any slices
 keeps : (st : List ℕ) (p : Plain) (m : List ℕ) (w : Lent) → length st ≡ 336 → Begun p m → (es : List Made) → AllByC es → Promise′ (stateIn st) p m w (turns es) → HostPromise st p m w es
 keeps st p m w n b [] h g = tt
@@ -76,7 +90,7 @@ keeps st p m w n b (e ∷ es) h g = λ same lends.
     let word : Word′ (e .call) = h .0 .1 in
     let long : length (e .state) ≡ 336 = ap length same ∙ n in
     split (ltb (length (e .answer)) 4)
-    (λ t. rw t (
+    (λ t. rw (no-answer st e t) (
     let u : Untouched e = untouched-short e (h .0 .0) (room (e .state) (e .answer) long true t) in
     let next : Promise′ (stateIn st) p m (leaves′ (e .lent) w) (turns es) =
     asked (stateIn st) p m w (e .lent) lends (turns es) (subst (λ (x : Bool). Promise′ (stateIn st) p m w (turnOf x e ∷ turns es)) t g) b in
@@ -84,12 +98,12 @@ keeps st p m w n b (e ∷ es) h g = λ same lends.
     (λ f. let turn : Promise′ (stateIn st) p m w (record { lent = e .lent; call = e .call } ∷ turns es) = subst (λ (x : Bool). Promise′ (stateIn st) p m w (turnOf x e ∷ turns es)) f g in
     let fits : tooShort (e .state) (e .answer) ≡ false = room (e .state) (e .answer) long false f in
     split (short′ (stateIn st) (e .lent) (e .call))
-    (λ t. rw (f, t) (
+    (λ t. rw (too-short st e f t) (
     let u : Untouched e = untouched-35 e (h .0 .0) fits (ap (λ (x : List ℕ). short′ (stateIn x) (e .lent) (e .call)) same ∙ t) in
     let x : Out = outOf (stateIn st) (e .lent) (e .call) in
     let r : Nothing′ (stateIn st) (e .lent) (e .call) x × Promise′ (stateIn st) p m (leaves′ (x .lent) w) (turns es) = rw t at (turn lends word) in
     (u, keeps st p m (leaves′ (e .lent′) w) n b es (h .1) (subst (λ (y : Lent). Promise′ (stateIn st) p m (leaves′ y w) (turns es)) (r .0 .lent ∙ sym (u .lent)) (r .1)))))
-    (λ k. rw (f, k) (
+    (λ k. rw (long-enough st e f k) (
     let x : Out = outOf (stateIn st) (e .lent) (e .call) in
     let v : Seen e x = subst (λ (y : List ℕ). Seen e (outOf (stateIn y) (e .lent) (e .call))) same (seen e (h .0 .0) long fits (ap (λ (y : List ℕ). short′ (stateIn y) (e .lent) (e .call)) same ∙ k)) in
     let r = rw k at (turn lends word) in
