@@ -39,6 +39,10 @@ pub record HostReads (bytes : List ℕ) (o n : ℕ) (e : Made) : Type 0 where
 abbrev pub groundOf : File → Draft → Lent → ℕ
 groundOf f d l = ground′ f d (length (l .mem))
 
+-- a direct call that itself ends at `end`, and makes the draft d of the file
+abbrev pub HostDirect : File → Draft → ℕ → Made → Type 0
+HostDirect f d end e = Direct 18446744073709551615 end (e .returned) (groundOf f d (e .lent)) (e .lent .mem) (e .lent′ .mem)
+
 -- how many bytes of memory are live
 abbrev pub live : List ℕ → ℕ
 live st = stateIn st .count .0 * 65536
@@ -49,8 +53,8 @@ live st = stateIn st .count .0 * 65536
 abbrev pub HostOwed : Plain → List ℕ → Made → Call → Lent → Type 0
 HostOwed (closed f) m e (begin g a b) w = Unit {0}
 HostOwed (closed f) m e (read o d) w = HostReads (f .bytes) o (length d) e
-HostOwed (closed f) m e (write o bs) w = Direct 18446744073709551615 (o + length bs) (e .returned) (groundOf f (draftWrite 16384 o bs (copied f)) (e .lent)) (e .lent .mem) (e .lent′ .mem)
-HostOwed (closed f) m e (truncate n) w = Direct 18446744073709551615 n (e .returned) (groundOf f (draftTruncate 16384 n (copied f)) (e .lent)) (e .lent .mem) (e .lent′ .mem)
+HostOwed (closed f) m e (write o bs) w = HostDirect f (draftWrite 16384 o bs (copied f)) (o + length bs) e
+HostOwed (closed f) m e (truncate n) w = HostDirect f (draftTruncate 16384 n (copied f)) n e
 HostOwed (closed f) m e commit w = (e .returned ≡ 0) × (e .lent′ .mem ≡ e .lent .mem)
 HostOwed (closed f) m e rollback w = (e .returned ≡ 0) × (e .lent′ .mem ≡ e .lent .mem)
 HostOwed (closed f) m e fileSize w = Tells (length (f .bytes)) e
@@ -91,6 +95,7 @@ pub record HostEnough (st : List ℕ) (e : Made) : Type 0 where
 abbrev pub tooLittle : List ℕ → Made → Bool
 tooLittle st e = ltb (length (e .answer)) 4 || short′ (stateIn st) (e .lent) (e .call)
 
+-- the plain file after the call: it is told the number returned, the length of memory and the memory left
 abbrev pub plainAfter : Plain → Made → Plain
 plainAfter p e = plainStep′ p (e .call) (record { number = e .returned; length = length (e .lent .mem); after = e .lent′ .mem })
 

@@ -1,5 +1,5 @@
--- DEMAND 3 FOR A HOST, OF THE LAST CALL: what a C call owes after every list of C calls; every read gives the bytes and the full-or-short answer of the
--- plain file.
+-- DEMAND 3 FOR A HOST, OF THE LAST CALL: what a C call owes after any list of C calls; every read gives the bytes and the full-or-short answer of the plain
+-- file.
 use mathlib.Core.Path.{_≡_, refl, subst}
 use Prim.Native.Nat.{ℕ}
 use mathlib.Core.Bool.{Bool, true, false, cond}
@@ -70,15 +70,6 @@ appended : (cs : List CCall) (c : CCall) → madeAll (cs ++ c ∷ []) ≡ madeAl
 appended [] c = refl
 appended (x ∷ cs) c = λ i. madeOf x ∷ appended cs c i
 
--- EVERY CALL: an image was opened by `yuharopu_open`, which returned 0, on memory that is bytes; any C calls cs followed, then c, each with what is asked
--- of a host. Lent too little, c returned 35 and left everything; else it has what demand 3 owes
-pub host-last : (o : COpened) → o .gave ≡ 0 → Bytes (memoryPassed o) → (b : Buffers) (w : List ℕ) (cs : List CCall) (c : CCall)
-    → Premises (stateLeft o) (lent (memoryLeft o) b w) (madeAll cs ++ madeOf c ∷ [])
-    → Last (stateLeft o) (plainOf (memoryLeft o)) [] (lent (memoryLeft o) b w) (madeAll cs) (madeOf c)
-host-last o ok bytes b w cs c h =
-    last (stateLeft o) (plainOf (memoryLeft o)) [] (lent (memoryLeft o) b w) (madeAll cs) (madeOf c)
-    (subst (HostPromise (stateLeft o) (plainOf (memoryLeft o)) [] (lent (memoryLeft o) b w)) (appended cs c) (host-demand3 o ok bytes b w (cs ++ c ∷ []))) h
-
 -- a read of n bytes at o sees the draft's in an update that is not spoiled, else the file's
 abbrev pub Shows : Plain → ℕ → ℕ → Made → Type 0
 Shows (closed f) o n e = HostReads (f .bytes) o n e
@@ -93,9 +84,34 @@ last-read st p m w es e o d is f h =
     let r : HostOwed (plainRun st p es) (beginRun st p m w es) e (e .call) (leaves′ (e .lent′) (leftRun w es)) = rw f at h in
     shows (plainRun st p es) (beginRun st p m w es) (leaves′ (e .lent′) (leftRun w es)) e o d (subst (λ (c : Call). HostOwed (plainRun st p es) (beginRun st p m w es) e c (leaves′ (e .lent′) (leftRun w es))) is r)
 
--- EVERY READ of d at a that is lent enough: it returned 0, told 1 if it was full and 0 if it was short, and filled d with the plain file's bytes
-pub host-read : (o : COpened) → o .gave ≡ 0 → Bytes (memoryPassed o) → (b : Buffers) (w : List ℕ) (cs : List CCall) (c : CCall) (a : ℕ) (d : List ℕ) → madeOf c .call ≡ read a d
-    → Premises (stateLeft o) (lent (memoryLeft o) b w) (madeAll cs ++ madeOf c ∷ []) → tooLittle (stateRun (stateLeft o) (madeAll cs)) (madeOf c) ≡ false
-    → Shows (plainRun (stateLeft o) (plainOf (memoryLeft o)) (madeAll cs)) a (length d) (madeOf c)
-host-read o ok bytes b w cs c a d is h f =
-    last-read (stateLeft o) (plainOf (memoryLeft o)) [] (lent (memoryLeft o) b w) (madeAll cs) (madeOf c) a d is f (host-last o ok bytes b w cs c h)
+-- `yuharopu_open` returned 0, on a memory that is bytes; the host has the slices b and w; any C calls cs followed, and then c
+module _ (o : COpened) (ok : o .gave ≡ 0) (bytes : Bytes (memoryPassed o)) (b : Buffers) (w : List ℕ) (cs : List CCall) (c : CCall) where
+  abbrev slices : Lent
+  slices = lent (memoryLeft o) b w
+
+  -- when c is called: the state's bytes, the plain file, the live memory when its update began, and the slices as they were last left
+  abbrev pub stateNow : List ℕ
+  stateNow = stateRun (stateLeft o) (madeAll cs)
+
+  abbrev pub plainNow : Plain
+  plainNow = plainRun (stateLeft o) (plainOf (memoryLeft o)) (madeAll cs)
+
+  abbrev pub begunNow : List ℕ
+  begunNow = beginRun (stateLeft o) (plainOf (memoryLeft o)) [] slices (madeAll cs)
+
+  abbrev pub leftNow : Lent
+  leftNow = leftRun slices (madeAll cs)
+
+  -- what is asked of a host
+  abbrev pub Chained : Type 0
+  Chained = Premises (stateLeft o) slices (madeAll cs ++ madeOf c ∷ [])
+
+  -- EVERY CALL: lent too little, it returned 35 and left everything; else it has what demand 3 owes
+  pub host-last : Chained → choose′ (tooLittle stateNow (madeOf c)) (Untouched (madeOf c)) (HostOwed plainNow begunNow (madeOf c) (madeOf c .call) (leaves′ (madeOf c .lent′) leftNow))
+  host-last h =
+      last (stateLeft o) (plainOf (memoryLeft o)) [] slices (madeAll cs) (madeOf c)
+      (subst (HostPromise (stateLeft o) (plainOf (memoryLeft o)) [] slices) (appended cs c) (host-demand3 o ok bytes b w (cs ++ c ∷ []))) h
+
+  -- EVERY READ of d at a that is lent enough: it returned 0, told 1 if it was full and 0 if it was short, and filled d with the plain file's bytes
+  pub host-read : (a : ℕ) (d : List ℕ) → madeOf c .call ≡ read a d → Chained → tooLittle stateNow (madeOf c) ≡ false → Shows plainNow a (length d) (madeOf c)
+  host-read a d is h f = last-read (stateLeft o) (plainOf (memoryLeft o)) [] slices (madeAll cs) (madeOf c) a d is f (host-last h)

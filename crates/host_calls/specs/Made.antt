@@ -38,12 +38,17 @@ looks checksum = true
 looks refresh = false
 looks (refreshStep n) = false
 
+-- what the contracts promise
 abbrev pub promised : List ℕ → List ℕ → Lent → Call → Called
 promised st an l c = cond (looks c) (ask st an l c) (call st an l c)
 
+-- what came out
+abbrev pub gives : Made → Called
+gives e = called (e .returned) (e .state′) (e .lent′) (e .answer′) (e .filled)
+
 -- the call was made as its contract says
 abbrev pub ByC : Made → Type 0
-ByC e = called (e .returned) (e .state′) (e .lent′) (e .answer′) (e .filled) ≡ promised (e .state) (e .answer) (e .lent) (e .call)
+ByC e = gives e ≡ promised (e .state) (e .answer) (e .lent) (e .call)
 
 -- and its arguments are of their types, as far as the claim asks
 abbrev pub AllByC : List Made → Type 0

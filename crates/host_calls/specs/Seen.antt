@@ -19,11 +19,11 @@ use Rattle.store.specs.Codec.{realCodec}
 use Rattle.store.specs.Calls.{Call, begin, read, write, truncate, commit, rollback, fileSize, importBegin, importChunk, importFinish, importCancel, export, checksum, refresh, refreshStep, Lent, Out, number, uses, lentBytes, Mode, idle, update, modeOf}
 use Rattle.store.specs.Store.{doExport, doChecksum, alone, act, swept, refuse, store}
 use Rattle.encoding.specs.StateBytes.{stateBytes, stateIn, bytes-long}
-use Rattle.encoding.specs.Called.{four, values, Shown, showing, pick, stepShown, answerShown, Called, calledAs, called, tooShort, shown, told, refusedShort, outOf, call, ask, call-short, ask-short}
+use Rattle.encoding.specs.Called.{four, values, Shown, showing, pick, stepShown, answerShown, Called, calledAs, tooShort, shown, told, refusedShort, outOf, call, ask, call-short, ask-short}
 use Rattle.plain_file.specs.Claim.{Reads, Kept, Direct, Unspoiled}
 use Rattle.plain_file.specs.Sizes.{short′, buffersShort′, Owed′, Enough′}
 use Rattle.plain_file.specs.Plain.{Plain, closed, drafting}
-use Rattle.host_calls.specs.Made.{Made, looks, promised, ByC}
+use Rattle.host_calls.specs.Made.{Made, looks, promised, gives, ByC}
 use Rattle.host_calls.specs.HostClaim.{Untouched, Tells, HostReads, live, HostOwed, HostEnough}
 
 -- ## Calls that look leave the state
@@ -116,7 +116,7 @@ module _ (e : Made) (h : ByC e) where
 
   by-refusal : promised (e .state) (e .answer) (e .lent) (e .call) ≡ refusedShort (e .state) (e .answer) (e .lent) (e .call) → Untouched e
   by-refusal q =
-      let r : called (e .returned) (e .state′) (e .lent′) (e .answer′) (e .filled) ≡ refusedShort (e .state) (e .answer) (e .lent) (e .call) = h ∙ q in
+      let r : gives e ≡ refusedShort (e .state) (e .answer) (e .lent) (e .call) = h ∙ q in
       record {
         returned = ap (λ (z : Called). z .number) r;
         state = ap (λ (z : Called). z .state) r;
@@ -136,7 +136,7 @@ module _ (e : Made) (h : ByC e) where
   seen n f g =
       let other : number (y .answer) ≡ 35 → ⊥ = only-short 16384 65536 8 1024 18446744073709551615 realCodec (stateIn (e .state)) (e .lent) (e .call) g in
       split (looks (e .call))
-      (λ t. let r : called (e .returned) (e .state′) (e .lent′) (e .answer′) (e .filled) ≡ calledAs (showing (number (y .answer)) (e .state) (overwrite 0 (values (y .answer)) (e .answer))) (y .lent) (y .filled) =
+      (λ t. let r : gives e ≡ calledAs (showing (number (y .answer)) (e .state) (overwrite 0 (values (y .answer)) (e .answer))) (y .lent) (y .filled) =
       h ∙ ap (λ (b : Bool). cond b (ask (e .state) (e .answer) (e .lent) (e .call)) (call (e .state) (e .answer) (e .lent) (e .call))) t
       ∙ ask-long (e .state) (e .answer) (e .lent) (e .call) f ∙ told-other (e .state) (e .answer) (e .lent) (e .call) y other in
       record {
@@ -147,7 +147,7 @@ module _ (e : Made) (h : ByC e) where
         lent = ap (λ (z : Called). z .lent) r;
         filled = ap (λ (z : Called). z .filled) r;
       })
-      (λ t. let r : called (e .returned) (e .state′) (e .lent′) (e .answer′) (e .filled) ≡ calledAs (stepped (e .state) (e .answer) (e .lent) (e .call) y) (y .lent) (y .filled) =
+      (λ t. let r : gives e ≡ calledAs (stepped (e .state) (e .answer) (e .lent) (e .call) y) (y .lent) (y .filled) =
       h ∙ ap (λ (b : Bool). cond b (ask (e .state) (e .answer) (e .lent) (e .call)) (call (e .state) (e .answer) (e .lent) (e .call))) t
       ∙ call-long (e .state) (e .answer) (e .lent) (e .call) f ∙ shown-other (e .state) (e .answer) (e .lent) (e .call) y other in
       record {

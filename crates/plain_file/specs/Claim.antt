@@ -50,12 +50,16 @@ Unspoiled false A = A
 
 -- page size, stable page size, cache pages, most runs, largest number
 module _ (P S C L M : ℕ) (k : Codec) where
+  -- a direct call that itself ends at `end`, and makes the draft d of the file
+  abbrev pub Directly : File → Draft → ℕ → Lent → Out → Type 0
+  Directly f d end l x = Direct M end (number (x .answer)) (verdictNumber (fileGround P S L M f d (length (l .mem)))) (l .mem) (x .lent .mem)
+
   -- of the plain file, the memory when its update began, the call, what is lent, what comes out, and all that is left then
   abbrev pub Owed : Plain → List ℕ → Call → Lent → Out → Lent → Type 0
   Owed (closed f) m (begin g a b) l x w = Unit {0}
   Owed (closed f) m (read o d) l x w = Reads (f .bytes) o (length d) x
-  Owed (closed f) m (write o bs) l x w = Direct M (o + length bs) (number (x .answer)) (verdictNumber (fileGround P S L M f (draftWrite P o bs (copied f)) (length (l .mem)))) (l .mem) (x .lent .mem)
-  Owed (closed f) m (truncate n) l x w = Direct M n (number (x .answer)) (verdictNumber (fileGround P S L M f (draftTruncate P n (copied f)) (length (l .mem)))) (l .mem) (x .lent .mem)
+  Owed (closed f) m (write o bs) l x w = Directly f (draftWrite P o bs (copied f)) (o + length bs) l x
+  Owed (closed f) m (truncate n) l x w = Directly f (draftTruncate P n (copied f)) n l x
   Owed (closed f) m commit l x w = (number (x .answer) ≡ 0) × (x .lent .mem ≡ l .mem)
   Owed (closed f) m rollback l x w = (number (x .answer) ≡ 0) × (x .lent .mem ≡ l .mem)
   Owed (closed f) m fileSize l x w = x .answer ≡ Size (length (f .bytes))
