@@ -1,1 +1,3 @@
+pub mod FreshRows
+pub mod RunRows
 pub mod Table

@@ -14,7 +14,7 @@ use Rattle.store.specs.declared.State.{State}
 use Rattle.store.specs.declared.Answer.{Answer}
 use Rattle.store.specs.declared.Answer.the-variants.{Size, Read, Refused}
 use Rattle.store.specs.Codec.{Codec}
-use Rattle.store.specs.Calls.{Call, begin, read, write, truncate, commit, rollback, fileSize, importBegin, importChunk, importFinish, importCancel, export, checksum, refresh, refreshStep, Lent, Out, number, lentBytes, Mode, idle, update, modeOf, short, withMem}
+use Rattle.store.specs.Calls.{Call, begin, read, write, truncate, commit, rollback, fileSize, importBegin, importChunk, importFinish, importCancel, export, checksum, refresh, refreshStep, Lent, Out, number, lentBytes, Mode, idle, update, modeOf, buffersShort, short, withMem}
 use Rattle.store.specs.Opening.{open′}
 use Rattle.plain_file.specs.Plain.{File, Draft, Plain, closed, drafting, Told, copied, draftWrite, draftTruncate, verdictNumber, fileGround, fileOf, plainStep}
 
@@ -34,11 +34,12 @@ pub record Kept (begun before after left : List ℕ) (live : ℕ) : Type 0 where
   pub call : after ≡ before
   pub began : take live left ≡ begun
 
--- a direct call is a begin, itself and a commit: it is accepted only where the commit's test is passed, 31 and 32 are the test's, and refused it
--- leaves memory as it was
-pub record Direct (answered ground : ℕ) (before after : List ℕ) : Type 0 where
+-- a direct call is a begin, itself and a commit: it is accepted only where the commit's test is passed; 31, 20 and 32 are the test's, but for a call that
+-- itself ends above the largest number; and refused it leaves memory as it was
+pub record Direct (M end answered ground : ℕ) (before after : List ℕ) : Type 0 where
   pub accepted : answered ≡ 0 → ground ≡ 0
   pub runs : answered ≡ 31 → ground ≡ 31
+  pub range : answered ≡ 20 → end ≤ M → ground ≡ 20
   pub ceiling : answered ≡ 32 → ground ≡ 32
   pub kept : (answered ≡ 0 → ⊥) → after ≡ before
 
@@ -49,14 +50,18 @@ Unspoiled false A = A
 
 -- page size, stable page size, cache pages, most runs, largest number
 module _ (P S C L M : ℕ) (k : Codec) where
+  -- a direct call that itself ends at `end`, and makes the draft d of the file
+  abbrev pub Directly : File → Draft → ℕ → Lent → Out → Type 0
+  Directly f d end l x = Direct M end (number (x .answer)) (verdictNumber (fileGround P S L M f d (length (l .mem)))) (l .mem) (x .lent .mem)
+
   -- of the plain file, the memory when its update began, the call, what is lent, what comes out, and all that is left then
   abbrev pub Owed : Plain → List ℕ → Call → Lent → Out → Lent → Type 0
   Owed (closed f) m (begin g a b) l x w = Unit {0}
   Owed (closed f) m (read o d) l x w = Reads (f .bytes) o (length d) x
-  Owed (closed f) m (write o bs) l x w = Direct (number (x .answer)) (verdictNumber (fileGround P S L M f (draftWrite P o bs (copied f)) (length (l .mem)))) (l .mem) (x .lent .mem)
-  Owed (closed f) m (truncate n) l x w = Direct (number (x .answer)) (verdictNumber (fileGround P S L M f (draftTruncate P n (copied f)) (length (l .mem)))) (l .mem) (x .lent .mem)
+  Owed (closed f) m (write o bs) l x w = Directly f (draftWrite P o bs (copied f)) (o + length bs) l x
+  Owed (closed f) m (truncate n) l x w = Directly f (draftTruncate P n (copied f)) n l x
   Owed (closed f) m commit l x w = (number (x .answer) ≡ 0) × (x .lent .mem ≡ l .mem)
-  Owed (closed f) m rollback l x w = x .lent .mem ≡ l .mem
+  Owed (closed f) m rollback l x w = (number (x .answer) ≡ 0) × (x .lent .mem ≡ l .mem)
   Owed (closed f) m fileSize l x w = x .answer ≡ Size (length (f .bytes))
   Owed (closed f) m (importBegin a e) l x w = Unit {0}
   Owed (closed f) m (importChunk o bs) l x w = Unit {0}
@@ -75,7 +80,7 @@ module _ (P S C L M : ℕ) (k : Codec) where
   Owed (drafting f d) m commit l x w =
       Unspoiled (d .spoiled) (number (x .answer) ≡ verdictNumber (fileGround P S L M f d (length (l .mem))))
       × ((number (x .answer) ≡ 0 → ⊥) → Kept m (l .mem) (x .lent .mem) (w .mem) (x .state .count .0 * S))
-  Owed (drafting f d) m rollback l x w = Kept m (l .mem) (x .lent .mem) (w .mem) (x .state .count .0 * S)
+  Owed (drafting f d) m rollback l x w = (number (x .answer) ≡ 0) × Kept m (l .mem) (x .lent .mem) (w .mem) (x .state .count .0 * S)
   Owed (drafting f d) m fileSize l x w = Unspoiled (d .spoiled) (x .answer ≡ Size (length (d .bytes)))
   Owed (drafting f d) m (importBegin a e) l x w = Unit {0}
   Owed (drafting f d) m (importChunk o bs) l x w = Unit {0}
@@ -92,6 +97,12 @@ module _ (P S C L M : ℕ) (k : Codec) where
     pub state : x .state ≡ s
     pub lent : x .lent ≡ l
     pub filled : x .filled ≡ lentBytes c
+
+  -- slices that are long enough for the state before the call are so for the state after it: a store that asks for more and more, to answer 35 for ever,
+  -- does not meet the claim
+  pub record Enough (s : State) (l : Lent) (x : Out) : Type 0 where
+    pub memory : s .count .0 * S ≤ length (l .mem) → x .state .count .0 * S ≤ length (l .mem)
+    pub buffers : buffersShort P S C L (modeOf s) (l .bufs) ≡ false → buffersShort P S C L (modeOf (x .state)) (l .bufs) ≡ false
 
   -- ## What is lent
 
@@ -186,7 +197,7 @@ module _ (P S C L M : ℕ) (k : Codec) where
       Lends s w l → Word c
       → choose (short P S C L s l c)
       (Nothing s l c x × Promise step s p m w′ ts)
-      (Owed p m c l x w′ × Promise step (x .state) p′ (atBegin p p′ m (take (x .state .count .0 * S) (w′ .mem))) w′ ts)
+      (Owed p m c l x w′ × Enough s l x × Promise step (x .state) p′ (atBegin p p′ m (take (x .state .count .0 * S) (w′ .mem))) w′ ts)
 
   -- DEMAND 3: from every image accepted at opening, the fresh one included, for every list of calls. Memory is bytes, and no more than numbers count
   unfoldable pub Claim : Step → Type 0

@@ -1,70 +1,93 @@
--- The theorem is about the running code: whatever gives what the contracts of the calls promise keeps demand 3.
-use mathlib.Core.Path.{_≡_, sym, _∙_, subst}
-use Prim.Native.Nat.{ℕ}
-use mathlib.Core.List.{List, []}
+-- DEMAND 3 OF THE CODE, for a caller of crate blob: of the calls that were made, by what their own contracts say. Nothing is asked of arguments that no caller
+-- can pass.
+use mathlib.Core.Path.{_≡_, sym, ap, _∙_, subst}
+use Prim.Native.Nat.{ℕ, _*_}
+use mathlib.Core.List.{List, [], _∷_}
+use lib.ListN.{take}
+use Rattle.memory.specs.Laws.{split}
+use Rattle.words.specs.Words.{Bytes}
 use Rattle.update.specs.Buffers.{Buffers}
 use Rattle.store.specs.declared.State.{State}
-use Rattle.store.specs.declared.Answer.{Answer}
 use Rattle.store.specs.Codec.{realCodec}
-use Rattle.store.specs.Calls.{Call, begin, read, write, truncate, commit, rollback, fileSize, importBegin, importChunk, importFinish, importCancel, export, checksum, refresh, refreshStep, Lent, Out, out}
-use Rattle.transfer.specs.OnMemory.{lent, OnMemory}
-use Rattle.lending.specs.Lending.{calls, Alone, OnBuffers, Reads}
-use Rattle.plain_file.specs.Claim.{Step, Claim}
+use Rattle.store.specs.Calls.{Call, Lent, Out, number}
+use Rattle.store.specs.Opening.{Opened, open′}
+use Rattle.transfer.specs.OnMemory.{lent}
+use Rattle.lending.specs.Lending.{calls}
+use Rattle.opening.specs.Opened.{opened}
+use Rattle.plain_file.specs.Plain.{Plain}
+use Rattle.plain_file.specs.Claim.{Claim}
+use Rattle.plain_file.specs.Sizes.{short′, plainOf, plainStep′, told′, Word′, Lends′, leaves′, atBegin′, Owed′, Nothing′, Enough′, choose′, Turn′, Promise′}
 use Rattle.plain_file.specs.Demand3.{demand3}
+use Rattle.plain_file.specs.BlobCalls.{Made, BlobCall, madeOf, by-blob, typed, BlobOpened, memoryPassed, countPassed, memoryLeft, by-open, open-typed}
 
--- the call c on s gave x, by its contract; what it is not lent stays
-module _ (s : State) (l : Lent) (c : Call) (x : Out) where
-  abbrev ByAlone : Type 0
-  ByAlone = Alone s c (x .state) (x .answer) × (x ≡ out (x .state) l (x .answer) [])
+-- the plain file after a call that gave x
+abbrev pub plainAfter : Plain → Call → Lent → Out → Plain
+plainAfter p c l x = plainStep′ p c (told′ l x)
 
-  abbrev ByMemory : List ℕ → Type 0
-  ByMemory f = OnMemory s (l .mem) c (x .state) (x .lent .mem) (x .answer) f × (x ≡ out (x .state) (lent (x .lent .mem) (l .bufs) (l .work)) (x .answer) f)
+-- the memory when the update began, after a call that gave x, of the slices w as they were left before it
+abbrev beginAfter : Plain → List ℕ → Lent → Call → Lent → Out → List ℕ
+beginAfter p m w c l x = atBegin′ p (plainAfter p c l x) m (take (x .state .count .0 * 65536) (leaves′ (x .lent) w .mem))
 
-  abbrev ByBuffers : Type 0
-  ByBuffers = OnBuffers s (l .bufs) c (x .state) (x .lent .bufs) (x .answer) × (x ≡ out (x .state) (lent (l .mem) (x .lent .bufs) (l .work)) (x .answer) [])
+-- `Promise`, of what each call gave. Premises: it got the state that the call before answered, and the live part of each slice as it was last left
+abbrev pub CallsPromise : State → Plain → List ℕ → Lent → List Made → Type 0
+CallsPromise s p m w [] = Unit {0}
+CallsPromise s p m w (e ∷ es) =
+    let l : Lent = e .lent in
+    let c : Call = e .call in
+    let x : Out = e .gave in
+    let w′ : Lent = leaves′ (x .lent) w in
+    e .state ≡ s → Lends′ s w l
+    → choose′ (short′ s l c)
+    (Nothing′ s l c x × CallsPromise s p m w′ es)
+    (Owed′ p m c l x w′ × Enough′ s l x × CallsPromise (x .state) (plainAfter p c l x) (beginAfter p m w c l x) w′ es)
 
-  abbrev ByAll : Type 0
-  ByAll = (out (x .state) (x .lent) (x .answer) [] ≡ calls s l c) × (x ≡ out (x .state) (x .lent) (x .answer) [])
+abbrev turns : List Made → List Turn′
+turns [] = []
+turns (e ∷ es) = record { lent = e .lent; call = e .call } ∷ turns es
 
--- the contract of each function of crate blob
-abbrev pub Contract : State → Lent → Call → Out → Type 0
-Contract s l (begin g p b) x = ByAlone s l (begin g p b) x
-Contract s l (read o d) x =
-    Reads s (l .mem) (l .bufs) o d (x .state) (x .lent .bufs) (x .answer) (x .filled) × (x ≡ out (x .state) (lent (l .mem) (x .lent .bufs) (l .work)) (x .answer) (x .filled))
-Contract s l (write o bs) x = ByAll s l (write o bs) x
-Contract s l (truncate n) x = ByAll s l (truncate n) x
-Contract s l commit x = ByAll s l commit x
-Contract s l rollback x = ByBuffers s l rollback x
-Contract s l fileSize x = ByAlone s l fileSize x
-Contract s l (importBegin t e) x = ByMemory s l (importBegin t e) x []
-Contract s l (importChunk o bs) x = ByMemory s l (importChunk o bs) x []
-Contract s l importFinish x = ByMemory s l importFinish x []
-Contract s l importCancel x = ByMemory s l importCancel x []
-Contract s l (export o d) x = ByMemory s l (export o d) x (x .filled)
-Contract s l checksum x = ByMemory s l checksum x []
-Contract s l refresh x = ByMemory s l refresh x []
-Contract s l (refreshStep n) x = ByMemory s l (refreshStep n) x []
+-- each call gave what the store's definition gives
+abbrev AllGave : List Made → Type 0
+AllGave [] = Unit {0}
+AllGave (e ∷ es) = ((e .gave ≡ calls (e .state) (e .lent) (e .call)) × Word′ (e .call)) × AllGave es
 
-by-contract : (s : State) (l : Lent) (c : Call) (x : Out) → Contract s l c x → x ≡ calls s l c
-by-contract s l (begin g p b) x h = h .1 ∙ h .0 l
-by-contract s l (read o d) x h = h .1 ∙ h .0 (l .work)
-by-contract s l (write o bs) x h = h .1 ∙ h .0
-by-contract s l (truncate n) x h = h .1 ∙ h .0
-by-contract s l commit x h = h .1 ∙ h .0
-by-contract s l rollback x h = h .1 ∙ h .0 (l .mem) (l .work)
-by-contract s l fileSize x h = h .1 ∙ h .0 l
-by-contract s l (importBegin t e) x h = h .1 ∙ h .0 (l .bufs) (l .work)
-by-contract s l (importChunk o bs) x h = h .1 ∙ h .0 (l .bufs) (l .work)
-by-contract s l importFinish x h = h .1 ∙ h .0 (l .bufs) (l .work)
-by-contract s l importCancel x h = h .1 ∙ h .0 (l .bufs) (l .work)
-by-contract s l (export o d) x h = h .1 ∙ h .0 (l .bufs) (l .work)
-by-contract s l checksum x h = h .1 ∙ h .0 (l .bufs) (l .work)
-by-contract s l refresh x h = h .1 ∙ h .0 (l .bufs) (l .work)
-by-contract s l (refreshStep n) x h = h .1 ∙ h .0 (l .bufs) (l .work)
+keeps : (s : State) (p : Plain) (m : List ℕ) (w : Lent) (es : List Made) → AllGave es → Promise′ s p m w (turns es) → CallsPromise s p m w es
+keeps s p m w [] h g = tt
+keeps s p m w (e ∷ es) h g = λ same lends.
+    let l : Lent = e .lent in
+    let c : Call = e .call in
+    let is : calls s l c ≡ e .gave = sym (h .0 .0 ∙ ap (λ (z : State). calls z l c) same) in
+    split (short′ s l c)
+    (λ t. let r : Nothing′ s l c (calls s l c) × Promise′ s p m (leaves′ (calls s l c .lent) w) (turns es) = rw t at (g lends (h .0 .1)) in
+    rw t (
+      subst (Nothing′ s l c) is (r .0),
+      keeps s p m (leaves′ (e .gave .lent) w) es (h .1) (subst (λ (x : Out). Promise′ s p m (leaves′ (x .lent) w) (turns es)) is (r .1)),
+    ))
+    (λ f. let r = rw f at (g lends (h .0 .1)) in
+    rw f (
+      subst (λ (x : Out). Owed′ p m c l x (leaves′ (x .lent) w)) is (r .0),
+      subst (Enough′ s l) is (r .1),
+      keeps (e .gave .state) (plainAfter p c l (e .gave)) (beginAfter p m w c l (e .gave)) (leaves′ (e .gave .lent) w) es (h .1)
+          (subst (λ (x : Out). Promise′ (x .state) (plainAfter p c l x) (beginAfter p m w c l x) (leaves′ (x .lent) w) (turns es)) is (r .2)),
+    ))
 
--- THE CODE: a step that gives, call by call, what the functions' contracts promise has the theorem. The functions take arguments of their types; at
--- others, which no caller can pass, a step may be the definition's
-pub demand3-code : (step : Step) → ((s : State) (l : Lent) (c : Call) → Contract s l c (step s l c)) → Claim 16384 65536 8 1024 18446744073709551615 realCodec step
-demand3-code step h =
-    let same : step ≡ calls = λ i s l c. by-contract s l c (step s l c) (h s l c) i in
-    subst (Claim 16384 65536 8 1024 18446744073709551615 realCodec) (sym same) demand3
+abbrev pub madeAll : List BlobCall → List Made
+madeAll [] = []
+madeAll (c ∷ cs) = madeOf c ∷ madeAll cs
+
+all-gave : (cs : List BlobCall) → AllGave (madeAll cs)
+all-gave [] = tt
+all-gave (c ∷ cs) = ((by-blob c, typed c), all-gave cs)
+
+-- THE CODE: `open` accepted an image, in a memory that is bytes; then the fifteen functions were called, in any order, with any arguments of their types.
+-- Every call has what is owed
+pub demand3-calls : (o : BlobOpened) → number (o .gave .answer) ≡ 0 → Bytes (memoryPassed o) → (b : Buffers) (w : List ℕ) (cs : List BlobCall)
+    → CallsPromise (o .gave .state) (plainOf (memoryLeft o)) [] (lent (memoryLeft o) b w) (madeAll cs)
+unfolding Claim
+demand3-calls o ok bytes b w cs =
+    let x : Opened = open′ 16384 65536 8 1024 18446744073709551615 realCodec (countPassed o) (memoryPassed o) in
+    let is : x ≡ opened (o .gave) (memoryLeft o) = sym (by-open o) in
+    let accepted : number (x .answer) ≡ 0 = ap (λ (z : Opened). number (z .answer)) is ∙ ok in
+    let g : Promise′ (x .state) (plainOf (x .mem)) [] (lent (x .mem) b w) (turns (madeAll cs)) =
+    demand3 (countPassed o) (lent (memoryPassed o) b w) bytes (open-typed o) accepted (turns (madeAll cs)) in
+    keeps (o .gave .state) (plainOf (memoryLeft o)) [] (lent (memoryLeft o) b w) (madeAll cs) (all-gave cs)
+    (subst (λ (z : Opened). Promise′ (z .state) (plainOf (z .mem)) [] (lent (z .mem) b w) (turns (madeAll cs))) is g)

@@ -16,14 +16,16 @@ use Rattle.store.specs.Store.{refuse, act, swept, store}
 use Rattle.store.specs.Opening.{open′}
 use Rattle.store.specs.Lawful.{Lawful, Good}
 use Rattle.store.specs.OpeningLaws.{Opens, opens}
+use Rattle.store.specs.BufferLengths.{count-lent, buffers-again}
 use Rattle.store.specs.RealCodec.{real-lawful}
 use Rattle.plain_file.specs.Plain.{Plain, closed, drafting, fileOf, plainStep}
-use Rattle.plain_file.specs.Claim.{Owed, Nothing, Lends, leaves, Turn, told, atBegin, Word, Promise, Claim}
+use Rattle.plain_file.specs.Claim.{Owed, Nothing, Enough, Lends, leaves, Turn, told, atBegin, Word, Promise, Claim}
 use Rattle.plain_file.specs.Invariant.{Inv, InvMode, inv-back}
 use Rattle.plain_file.specs.Turns.{Turned, update-turn}
 use Rattle.plain_file.specs.IdleTurns.{idle-turn}
 
-module _ (P S C L M : ℕ) (k : Codec) (pos : 0 < P) (spos : 0 < S) (laws : Lawful S L M k) where
+-- pages and stable pages have a byte, and a stable page is no smaller than a page
+module _ (P S C L M : ℕ) (k : Codec) (pos : 0 < P) (spos : 0 < S) (wide : P ≤ S) (laws : Lawful S L M k) where
   abbrev ours : State → Lent → Call → Out
   ours = store P S C L M k
 
@@ -33,7 +35,7 @@ module _ (P S C L M : ℕ) (k : Codec) (pos : 0 < P) (spos : 0 < S) (laws : Lawf
 
   turn : (c : ℕ) (h : Superblock) (u : Bool) (v : Overlay) (p : Plain) (m : List ℕ) (w l : Lent) (b : Call) → InvMode P S C L M k (modeIf u v) (made c h u v) p m w → Lends P S C L M k (made c h u v) w l → Word P S C L M k b
       → short P S C L (made c h u v) l b ≡ false → Turned P S C L M k p m b l (swept P S C L M k (uses b .work?) (act P S C L M k (made c h u v) l b)) w
-  turn c h false v (closed f) m w l b i t z e = idle-turn P S C L M k pos spos laws c h v f m w l i t b z e
+  turn c h false v (closed f) m w l b i t z e = idle-turn P S C L M k pos spos wide laws c h v f m w l i t b z e
   turn c h false v (drafting f d) m w l b i t z e = absurd i
   turn c h true v (closed f) m w l b i t z e = absurd i
   turn c h true v (drafting f d) m w l b i t z e = update-turn P S C L M k pos spos laws c h v f d m w l i t b z e
@@ -60,11 +62,13 @@ module _ (P S C L M : ℕ) (k : Codec) (pos : 0 < P) (spos : 0 < S) (laws : Lawf
             (subst (λ (x : Out). Inv P S C L M k s p m (leaves P S C L M k (x .lent) w)) (sym q) (inv-back P S C L M k laws s p m (t .lent) w lends i)) ts,
       )))
       (λ e. rw e (
-      let r : Turned P S C L M k p m (t .call) (t .lent) (ours s (t .lent) (t .call)) w = done-turn s p m w (t .lent) (t .call) i lends word e in (
+      let x : Out = ours s (t .lent) (t .call) in
+      let p′ : Plain = plainStep P S L M k p (t .call) (told P S C L M k (t .lent) x) in
+      let w′ : Lent = leaves P S C L M k (x .lent) w in
+      let r : Turned P S C L M k p m (t .call) (t .lent) x w = done-turn s p m w (t .lent) (t .call) i lends word e in (
         r .owed,
-        keeps (ours s (t .lent) (t .call) .state) (plainStep P S L M k p (t .call) (told P S C L M k (t .lent) (ours s (t .lent) (t .call))))
-            (atBegin P S C L M k p (plainStep P S L M k p (t .call) (told P S C L M k (t .lent) (ours s (t .lent) (t .call)))) m (take (ours s (t .lent) (t .call) .state .count .0 * S) (leaves P S C L M k (ours s (t .lent) (t .call) .lent) w .mem)))
-            (leaves P S C L M k (ours s (t .lent) (t .call) .lent) w) (r .inv) ts,
+        record { memory = λ h. omega (arith, count-lent P S C L M k spos s (t .lent) h (t .call)); buffers = λ h. buffers-again P S C L M k pos s (t .lent) h (t .call) },
+        keeps (x .state) p′ (atBegin P S C L M k p p′ m (take (x .state .count .0 * S) (w′ .mem))) w′ (r .inv) ts,
       )))
 
   -- every store of this shape, whatever its sizes and its lawful codec
@@ -79,4 +83,4 @@ module _ (P S C L M : ℕ) (k : Codec) (pos : 0 < P) (spos : 0 < S) (laws : Lawf
 
 -- THE THEOREM: at 01's sizes, with 01's superblock and hash
 pub demand3 : Claim 16384 65536 8 1024 18446744073709551615 realCodec (store 16384 65536 8 1024 18446744073709551615 realCodec)
-demand3 = meets 16384 65536 8 1024 18446744073709551615 realCodec (omega arith) (omega arith) real-lawful
+demand3 = meets 16384 65536 8 1024 18446744073709551615 realCodec (omega arith) (omega arith) (omega arith) real-lawful

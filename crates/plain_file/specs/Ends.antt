@@ -28,6 +28,7 @@ use Rattle.update.specs.Update.{Over, raw}
 use Rattle.update.specs.Refused.{Weak}
 use Rattle.update.specs.Reading.{raw-weak}
 use Rattle.store.specs.declared.State.{State}
+use Rattle.store.specs.Cases.{by-test}
 use Rattle.store.specs.declared.Answer.{Answer}
 use Rattle.store.specs.declared.Answer.the-variants.{Done, Refused}
 use Rattle.store.specs.Codec.{Codec, sealed, stored}
@@ -39,11 +40,6 @@ use Rattle.store.specs.MemoryLaws.{Reaches, grow-cases}
 use Rattle.store.specs.CommitLaws.{newBlock, flushed, after, commit-good, commit-byte, after-size, after-base, after-count, after-runs}
 use Rattle.plain_file.specs.Plain.{File, Draft, Verdict, fine, runs31, range20, ceiling32, verdictNumber, farthest, judge, ground, fileGround, taken, fileOf}
 use Rattle.plain_file.specs.Invariant.{Draws}
-
--- a conditional by its test (and not by rw: a test on a field of a record would rewrite the record)
-pub by-test : {A : Type 0} (Q : A → Type 0) (b : Bool) (x y : A) → (b ≡ true → Q x) → (b ≡ false → Q y) → Q (cond b x y)
-by-test Q true x y f g = f refl
-by-test Q false x y f g = g refl
 
 and-both : (a b : Bool) → (a && b) ≡ true → (a ≡ true) × (b ≡ true)
 and-both true b h = (refl, h)

@@ -1,7 +1,7 @@
 -- One call with no update open: what is owed is paid, and the invariant holds again.
 use mathlib.Core.Path.{_≡_, refl, sym, ap, _∙_, subst, subst₂}
 use Prim.Native.Nat.{ℕ, zero, suc, _+_, _-_, _*_, _/_, _%_, _≤_, _<_, max, min}
-use native.Mathlib.Nat.{mul-le-mul-right}
+use native.Mathlib.Nat.{mul-le-mul-right, add-mul, one-mul}
 use native.Mathlib.Omega.{arith}
 use mathlib.Core.Bool.{Bool, true, false, not, cond, _&&_, _||_}
 use mathlib.Core.List.{List, [], _∷_, _++_}
@@ -9,7 +9,7 @@ use lib.Dec.{ltb, leb, eqb}
 use lib.ListN.{length, getD, take, drop, List·getD-eq-default}
 use borrow.Author.Tests.{ltb-true, ltb-false, eqb-true, eqb-false, lt-ltb, ne-eqb}
 use Rattle.config.specs.Refusals.{numbersOf}
-use Rattle.config.specs.Pages.{count}
+use Rattle.config.specs.Pages.{count, page-lo}
 use Rattle.config.specs.declared.refusal.Refusal.{Refusal}
 use Rattle.config.specs.declared.refusal.Refusal.the-variants.{ChecksumMismatch}
 use Rattle.memory.specs.Bytes.{overwrite}
@@ -31,6 +31,8 @@ use Rattle.update.specs.BufferLaws.{cached-put, view-fresh}
 use Rattle.update.specs.Refused.{Weak, Outcome, write-out, truncate-out}
 use Rattle.update.specs.Reading.{reads}
 use Rattle.store.specs.declared.State.{State}
+use Rattle.store.specs.Cases.{by-test}
+use Rattle.store.specs.Tries.{RefusedBy, write-by, truncate-by}
 use Rattle.store.specs.declared.Answer.{Answer}
 use Rattle.store.specs.declared.Answer.the-variants.{Done, Size, Read, Checksum, Refused}
 use Rattle.store.specs.Codec.{Codec, sealed, stored}
@@ -42,14 +44,14 @@ use Rattle.store.specs.MemoryLaws.{Reaches, grow-cases, stored-high, stored-len
 use Rattle.plain_file.specs.Plain.{File, Draft, Plain, closed, drafting, copied, draftWrite, draftTruncate, verdictNumber, fileGround, fileOf, changed}
 use Rattle.plain_file.specs.Claim.{Reads, Direct, Lends, leaves, atBegin, Word}
 use Rattle.plain_file.specs.Invariant.{Draws, Inv, good-near, file-near, inv-back}
-use Rattle.plain_file.specs.Ends.{by-test, file-is, file-length, file-base, file-runs, file-byte, Committed, committed}
+use Rattle.plain_file.specs.Ends.{file-is, file-length, file-base, file-runs, file-byte, Committed, committed}
 use Rattle.plain_file.specs.Turns.{Turned, mem-lent, draws-write, draws-truncate, inv-done, inv-swept, closed-inv}
 
 not-false : (a : Bool) → not a ≡ false → a ≡ true
 not-false true h = refl
 not-false false h = clash refl h
 
-module _ (P S C L M : ℕ) (k : Codec) (pos : 0 < P) (spos : 0 < S) (laws : Lawful S L M k) where
+module _ (P S C L M : ℕ) (k : Codec) (pos : 0 < P) (spos : 0 < S) (wide : P ≤ S) (laws : Lawful S L M k) where
   -- ## An image's bytes, at any offset
 
   module _ (c : ℕ) (h : Superblock) (a : List ℕ) (f : File) (g : Good S L M k c h a) (e : f ≡ fileOf P S L M k a) where
@@ -240,15 +242,23 @@ module _ (P S C L M : ℕ) (k : Codec) (pos : 0 < P) (spos : 0 < S) (laws : Lawf
     abbrev img : ℕ → ℕ
     img = image P S C L M k h (l .mem)
 
+    -- a refusal other than 20, of a call that itself ends at or below the largest number
+    abbrev NotRange : ℕ → Refusal → Type 0
+    NotRange end r = end ≤ M → numbersOf r .number ≡ 20 → ⊥
+
+    -- the old last page ends within the numbers: the image lies behind the first stable page, which is no smaller than a page
+    old-end : Good S L M k c h (l .mem) → (Q : Type 0) → ltb M ((h .«db_size» / P + 1) * P) ≡ true → Q
+    old-end g Q t = absurd (omega (arith, ltb-true M ((h .«db_size» / P + 1) * P) t, add-mul (h .«db_size» / P) 1 P, one-mul P, page-lo P pos (h .«db_size»), g .range, g .base-low, wide))
+
     module _ (G : Draft → Draft) (g : Good S L M k c h (l .mem)) (q : f ≡ fileOf P S L M k (l .mem)) where
-      direct-owed : (tr : Tried) (x : Over) → Outcome (Weak P C M img) tr x → Draws P img (h .«db_size») x (G (copied f))
-          → Direct (number (direct P S C L M k s l tr .answer)) (verdictNumber (fileGround P S L M f (G (copied f)) (length (l .mem)))) (l .mem) (direct P S C L M k s l tr .lent .mem)
-      direct-owed (accepted u) x a y =
+      direct-owed : (end : ℕ) (tr : Tried) (x : Over) → Outcome (Weak P C M img) tr x → Draws P img (h .«db_size») x (G (copied f))
+          → RefusedBy (NotRange end) tr → Direct M end (number (direct P S C L M k s l tr .answer)) (verdictNumber (fileGround P S L M f (G (copied f)) (length (l .mem)))) (l .mem) (direct P S C L M k s l tr .lent .mem)
+      direct-owed end (accepted u) x a y n =
           let cm : Committed P S C L M k pos spos laws c h (l .mem) u (commitOver P S C L M k false s l (h .«db_size») u) = committed P S C L M k pos spos laws false s l g u (a .1) in
           let e : number (commitOver P S C L M k false s l (h .«db_size») u .answer) ≡ verdictNumber (fileGround P S L M f (G (copied f)) (length (l .mem))) =
           cm .ground f (G (copied f)) q (subst (λ (r : Over). Draws P img (h .«db_size») r (G (copied f))) (sym (a .0)) y) in
-          record { accepted = λ z. sym e ∙ z; runs = λ z. sym e ∙ z; ceiling = λ z. sym e ∙ z; kept = cm .kept }
-      direct-owed (refused r u) x a y = record { accepted = λ z. absurd (a .0 .0 z); runs = λ z. absurd (a .0 .1 z); ceiling = λ z. absurd (a .0 .2 z); kept = λ z. refl }
+          record { accepted = λ z. sym e ∙ z; runs = λ z. sym e ∙ z; range = λ z q. sym e ∙ z; ceiling = λ z. sym e ∙ z; kept = cm .kept }
+      direct-owed end (refused r u) x a y n = record { accepted = λ z. absurd (a .0 .0 z); runs = λ z. absurd (a .0 .1 z); range = λ z q. absurd (n (omega (arith, q)) z); ceiling = λ z. absurd (a .0 .2 z); kept = λ z. refl }
 
       direct-file : (u : Over) (y : Out) (now : List ℕ) (b : Bool) → eqb (number (y .answer)) 0 ≡ b → Committed P S C L M k pos spos laws c h (l .mem) u y
           → Draws P img (h .«db_size») u (G (copied f))
@@ -273,6 +283,7 @@ module _ (P S C L M : ℕ) (k : Codec) (pos : 0 < P) (spos : 0 < S) (laws : Lawf
           (inv-swept P S C L M k pos spos laws (direct P S C L M k s l tr) _ _ w (direct-inv tr x now a y))
 
     write-turn : (o : ℕ) (bs : List ℕ) → short P S C L s l (write o bs) ≡ false → Turned P S C L M k (closed f) m (write o bs) l (swept P S C L M k true (act P S C L M k s l (write o bs))) w
+    unfolding fresh
     write-turn o bs e =
         let g : Good S L M k c h (l .mem) = lent-good (write o bs) refl e in
         let q : f ≡ fileOf P S L M k (l .mem) = lent-file (write o bs) refl e in
@@ -282,12 +293,14 @@ module _ (P S C L M : ℕ) (k : Codec) (pos : 0 < P) (spos : 0 < S) (laws : Lawf
         let tr : Tried = tryWrite P M F R img o bs u in
         let a : Outcome (Weak P C M img) tr (written P img o bs u) = write-out P C M pos img F R o bs u (fresh-weak img (h .«db_size») (budgetOf false 0 0) (omega (arith, g .range))) in
         let r : Draws P img (h .«db_size») (written P img o bs u) (draftWrite P o bs (copied f)) = draws-write P pos img (h .«db_size») u (copied f) (fresh-draws c h (l .mem) f g q (budgetOf false 0 0)) o bs in
+        let near : RefusedBy (NotRange (o + length bs)) tr = write-by (NotRange (o + length bs)) (λ z e. omega arith) (λ z e. omega arith) (λ z e. omega arith) P M F R img u (old-end g _) o bs (λ t z e. omega (arith, ltb-true M (o + length bs) t)) in
         record {
-          owed = direct-owed (draftWrite P o bs) g q tr (written P img o bs u) a r;
+          owed = direct-owed (draftWrite P o bs) g q (o + length bs) tr (written P img o bs u) a r near;
           inv = direct-turn (draftWrite P o bs) g q (write o bs) tr (written P img o bs u) a r _ refl _;
         }
 
     truncate-turn : (n : ℕ) → n ≤ M → short P S C L s l (truncate n) ≡ false → Turned P S C L M k (closed f) m (truncate n) l (swept P S C L M k true (act P S C L M k s l (truncate n))) w
+    unfolding fresh
     truncate-turn n word e =
         let g : Good S L M k c h (l .mem) = lent-good (truncate n) refl e in
         let q : f ≡ fileOf P S L M k (l .mem) = lent-file (truncate n) refl e in
@@ -297,8 +310,9 @@ module _ (P S C L M : ℕ) (k : Codec) (pos : 0 < P) (spos : 0 < S) (laws : Lawf
         let tr : Tried = tryTruncate P M F R img n u in
         let a : Outcome (Weak P C M img) tr (truncated P img n u) = truncate-out P C M pos img F R n u word (fresh-weak img (h .«db_size») (budgetOf false 0 0) (omega (arith, g .range))) in
         let r : Draws P img (h .«db_size») (truncated P img n u) (draftTruncate P n (copied f)) = draws-truncate P pos img (h .«db_size») u (copied f) (fresh-draws c h (l .mem) f g q (budgetOf false 0 0)) n in
+        let near : RefusedBy (NotRange n) tr = truncate-by (NotRange n) (λ z e. omega arith) (λ z e. omega arith) (λ z e. omega arith) P M F R img u (old-end g _) n in
         record {
-          owed = direct-owed (draftTruncate P n) g q tr (truncated P img n u) a r;
+          owed = direct-owed (draftTruncate P n) g q n tr (truncated P img n u) a r near;
           inv = direct-turn (draftTruncate P n) g q (truncate n) tr (truncated P img n u) a r _ refl _;
         }
 
@@ -520,7 +534,7 @@ module _ (P S C L M : ℕ) (k : Codec) (pos : 0 < P) (spos : 0 < S) (laws : Lawf
     idle-turn (write o bs) z e = write-turn o bs e
     idle-turn (truncate n) z e = truncate-turn n z e
     idle-turn commit z e = commit-turn
-    idle-turn rollback z e = record { owed = refl; inv = same }
+    idle-turn rollback z e = record { owed = (refl, refl); inv = same }
     idle-turn fileSize z e = size-turn
     idle-turn (importBegin a b) z e = import-begin (lent-good (importBegin a b) refl e) (lent-file (importBegin a b) refl e) a b
     idle-turn (importChunk o bs) z e = import-chunk (lent-good (importChunk o bs) refl e) (lent-file (importChunk o bs) refl e) o bs

@@ -1,9 +1,12 @@
 pub mod Plain
+pub mod PlainLaws
 pub mod Claim
+pub mod Sizes
 pub mod Invariant
 pub mod Ends
 pub mod Turns
 pub mod IdleTurns
 pub mod Demand3
+pub mod BlobCalls
 pub mod Code
 pub mod Wrong

@@ -1,17 +1,17 @@
 -- 01's section "The plain file", sentence by sentence. It knows no frame, no cache and no superblock's bytes.
-use Prim.Native.Nat.{ℕ, zero, suc, _+_, _*_, _/_, max}
+use Prim.Native.Nat.{ℕ, zero, suc, _+_, _-_, _*_, _/_, max}
 use mathlib.Core.Bool.{Bool, true, false, not, cond, _&&_}
-use mathlib.Core.List.{List, [], _∷_}
-use lib.Dec.{ltb, eqb}
+use mathlib.Core.List.{List, [], _∷_, _++_}
+use lib.Dec.{ltb, leb, eqb}
 use lib.ListN.{length, getD}
 use Rattle.config.specs.Pages.{count}
 use Rattle.memory.specs.Bytes.{resize}
 use Rattle.meta.specs.declared.ZeroExtent.{ZeroExtent}
+use Rattle.meta.specs.Runs.{run}
 use Rattle.runs.specs.Sets.{covers}
 use Rattle.extents.specs.Plan.{Answer, tooMany, kept, below, plan}
 use Rattle.update.specs.Lists.{put, tabulate, null}
-use Rattle.update.specs.Pages.{addNumbers, addNumberIf, partial, span, grownNumbers}
-use Rattle.update.specs.Update.{pushRun}
+use Rattle.update.specs.Pages.{addNumbers, addNumberIf}
 use Rattle.store.specs.Codec.{Codec}
 use Rattle.store.specs.Calls.{Call, begin, read, write, truncate, commit, rollback, fileSize, importBegin, importChunk, importFinish, importCancel, export, checksum, refresh, refreshStep}
 
@@ -48,24 +48,41 @@ copied f = record { bytes = f .bytes; dirty = []; recorded = []; spoiled = false
 unfoldable pub spoil : Draft → Draft
 spoil d = record { bytes = d .bytes; dirty = d .dirty; recorded = d .recorded; spoiled = true }
 
+-- what is recorded for the pages from a up to, not including, e: one run, or none where there is no page. The record is "in order of push (not merged)"
+unfoldable pub newRun : ℕ → ℕ → List ZeroExtent
+newRun a e = cond (leb e a) [] (run a e ∷ [])
+
 module _ (P : ℕ) where
+  -- "each page it has a byte in", of n bytes from o on: those from the first byte's to the last byte's
+  unfoldable pub pagesWith : ℕ → ℕ → ℕ
+  pagesWith o n = suc ((o + n - 1) / P) - o / P
+
+  -- n bytes end within a page, "a partial last page"
+  unfoldable pub endsWithin : ℕ → Bool
+  endsWithin n = ltb (n / P * P) n
+
+  -- growth "makes dirty a partial old last page, then a partial new last page unless the old size, as an offset, lies in it"
+  unfoldable pub grownDirty : ℕ → ℕ → List ℕ → List ℕ
+  grownDirty old new ns = cond (ltb old new) (addNumberIf (endsWithin new && not (eqb (old / P) (new / P))) (new / P) (addNumberIf (endsWithin old) (old / P) ns)) ns
+
   -- "An accepted write puts its bytes there, raising a smaller size to its end, zeros filling a gap; an empty one does nothing." "Both record,
-  -- drop and make dirty as the overlay's sentences say; a write also dirties each page it has a byte in."
+  -- drop and make dirty as the overlay's sentences say; a write also dirties each page it has a byte in." "Growth records the pages from the old count
+  -- to the new one"
   unfoldable pub draftWrite : ℕ → List ℕ → Draft → Draft
   draftWrite o bs d = cond (eqb (length bs) 0) d record {
     bytes = put (d .bytes) o bs;
-    dirty = addNumbers (o / P) (span P o (length bs)) (grownNumbers P (length (d .bytes)) (o + length bs) (d .dirty));
-    recorded = pushRun (count P (length (d .bytes))) (count P (o + length bs)) (d .recorded);
+    dirty = addNumbers (o / P) (pagesWith o (length bs)) (grownDirty (length (d .bytes)) (o + length bs) (d .dirty));
+    recorded = d .recorded ++ newRun (count P (length (d .bytes))) (count P (o + length bs));
     spoiled = d .spoiled;
   }
 
-  -- "An accepted truncation sets the size, cutting bytes or adding zeros." It records growth or a cut, drops the pages from the new count up, and
-  -- makes a partial last page dirty
+  -- "An accepted truncation sets the size, cutting bytes or adding zeros." It records growth, or a cut "from the new count to the old", drops the pages from
+  -- the new count up, and makes a partial last page dirty
   unfoldable pub draftTruncate : ℕ → Draft → Draft
   draftTruncate n d = record {
     bytes = resize n (d .bytes);
-    dirty = addNumberIf (partial P n) (n / P) (below (count P n) (grownNumbers P (length (d .bytes)) n (d .dirty)));
-    recorded = pushRun (count P n) (count P (length (d .bytes))) (pushRun (count P (length (d .bytes))) (count P n) (d .recorded));
+    dirty = addNumberIf (endsWithin n) (n / P) (below (count P n) (grownDirty (length (d .bytes)) n (d .dirty)));
+    recorded = d .recorded ++ (newRun (count P (length (d .bytes))) (count P n) ++ newRun (count P n) (count P (length (d .bytes))));
     spoiled = d .spoiled;
   }
 

@@ -1,7 +1,7 @@
 -- One call in an update: what is owed is paid, and the invariant holds again.
 use mathlib.Core.Path.{_≡_, refl, sym, ap, _∙_, subst, subst₂}
 use Prim.Native.Nat.{ℕ, zero, suc, _+_, _-_, _*_, _/_, _%_, _≤_, _<_, max, min}
-use native.Mathlib.Nat.{le-div-iff-mul-le, mul-le-mul-right}
+use native.Mathlib.Nat.{le-div-iff-mul-le, mul-le-mul-right, pos-of-ne-zero}
 use native.Mathlib.Omega.{arith}
 use mathlib.Core.Bool.{Bool, true, false, not, cond, _&&_, _||_}
 use mathlib.Core.List.{List, [], _∷_, _++_}
@@ -28,6 +28,7 @@ use Rattle.update.specs.Changes.{Like, write-like, truncate-like, write-numbers
 use Rattle.update.specs.Refused.{Weak, all-sized, Outcome, write-out, truncate-out}
 use Rattle.update.specs.Reading.{Seen, read-seen, read-bytes, seen-like}
 use Rattle.store.specs.declared.State.{State}
+use Rattle.store.specs.Cases.{no-or}
 use Rattle.store.specs.declared.Answer.{Answer}
 use Rattle.store.specs.declared.Answer.the-variants.{Size, Read, Refused}
 use Rattle.store.specs.Codec.{Codec}
@@ -35,14 +36,11 @@ use Rattle.store.specs.Blocks.{importing}
 use Rattle.store.specs.Calls.{Call, begin, read, write, truncate, commit, rollback, fileSize, importBegin, importChunk, importFinish, importCancel, export, checksum, refresh, refreshStep, Lent, Out, number, uses, Mode, idle, update, modeOf, buffersShort, short, cleared, withBuffers}
 use Rattle.store.specs.Store.{working, budgetOf, image, full, answerOf, inUpdate, commitOver, doBegin, act, swept}
 use Rattle.store.specs.Lawful.{Lawful, Good}
+use Rattle.plain_file.specs.PlainLaws.{run-pushed, runs-pushed, pages-same, within-same, grown-same}
 use Rattle.plain_file.specs.Plain.{File, Draft, Plain, closed, drafting, draftWrite, draftTruncate, spoil, verdictNumber, fileGround, fileOf, fromMemory, changed, committed as committedFile, plainStep}
 use Rattle.plain_file.specs.Claim.{Reads, Kept, Unspoiled, Owed, dirtyOf, recordOf, cachedOf, Lends, laid, leaves, told, atBegin, Word}
 use Rattle.plain_file.specs.Invariant.{Draws, Facts, Busy, Inv, InvMode, Near, Long, laid-long, laid-back, good-near, file-near, inv-near, inv-long, inv-back, inv-out}
 use Rattle.plain_file.specs.Ends.{Committed, committed}
-
-no-or : (a b : Bool) → (a || b) ≡ false → (a ≡ false) × (b ≡ false)
-no-or true b h = clash refl h
-no-or false b h = (refl, h)
 
 module _ (P S C L M : ℕ) (k : Codec) where
   -- what is owed of a call, and the invariant after it
@@ -116,16 +114,24 @@ module _ (P : ℕ) (pos : 0 < P) (b : ℕ → ℕ) (z : ℕ) (v : Over) (d : Dra
       (λ t. rw (written, draftWrite, t) y)
       (λ f. rw (written, draftWrite, f) record {
         like = write-like P pos b z o bs v (d .bytes) (y .like);
-        numbers-is = write-numbers P pos b z o bs v ∙ (λ i. addNumbers (o / P) (span P o (length bs)) (grownNumbers P (y .like .size-is i) (o + length bs) (y .numbers-is i)));
-        recorded-is = write-recorded P pos b z o bs v ∙ (λ i. pushRun (count P (y .like .size-is i)) (count P (o + length bs)) (y .recorded-is i));
+        numbers-is = write-numbers P pos b z o bs v
+            ∙ (λ i. addNumbers (o / P) (span P o (length bs)) (grownNumbers P (y .like .size-is i) (o + length bs) (y .numbers-is i)))
+            ∙ (λ i. addNumbers (o / P) (pages-same P pos o (length bs) (pos-of-ne-zero (eqb-false (length bs) 0 f)) i) (grown-same P pos (length (d .bytes)) (o + length bs) (d .dirty) i));
+        recorded-is = write-recorded P pos b z o bs v
+            ∙ (λ i. pushRun (count P (y .like .size-is i)) (count P (o + length bs)) (y .recorded-is i))
+            ∙ run-pushed (count P (length (d .bytes))) (count P (o + length bs)) (d .recorded);
       })
 
   pub draws-truncate : (n : ℕ) → Draws P b z (truncated P b n v) (draftTruncate P n d)
   unfolding draftTruncate
   draws-truncate n = record {
     like = truncate-like P pos b z n v (d .bytes) (y .like);
-    numbers-is = truncate-numbers P pos b z n v ∙ (λ i. addNumberIf (partial P n) (n / P) (below (count P n) (grownNumbers P (y .like .size-is i) n (y .numbers-is i))));
-    recorded-is = truncate-recorded P pos b z n v ∙ (λ i. pushRun (count P n) (count P (y .like .size-is i)) (pushRun (count P (y .like .size-is i)) (count P n) (y .recorded-is i)));
+    numbers-is = truncate-numbers P pos b z n v
+        ∙ (λ i. addNumberIf (partial P n) (n / P) (below (count P n) (grownNumbers P (y .like .size-is i) n (y .numbers-is i))))
+        ∙ (λ i. addNumberIf (within-same P pos n i) (n / P) (below (count P n) (grown-same P pos (length (d .bytes)) n (d .dirty) i)));
+    recorded-is = truncate-recorded P pos b z n v
+        ∙ (λ i. pushRun (count P n) (count P (y .like .size-is i)) (pushRun (count P (y .like .size-is i)) (count P n) (y .recorded-is i)))
+        ∙ runs-pushed (count P (length (d .bytes))) (count P n) (d .recorded);
   }
 
 write-spoiled : (P o : ℕ) (bs : List ℕ) (d : Draft) → draftWrite P o bs d .spoiled ≡ d .spoiled
@@ -337,7 +343,7 @@ module _ (P S C L M : ℕ) (k : Codec) (pos : 0 < P) (spos : 0 < S) (laws : Lawf
         let same : (n : ℕ) → n < c * S → getD (laid P S C L M k (l .mem) (w .mem)) n 0 ≡ getD (w .mem) n 0 = laid-back P S C L M k (l .mem) (w .mem) (c * S) (t .mem) in
         let long : c * S ≤ length (laid P S C L M k (l .mem) (w .mem)) = omega (arith, g .lent, laid-long P S C L M k (l .mem) (w .mem)) in
         record {
-          owed = record { call = refl; began = still-there };
+          owed = (refl, record { call = refl; began = still-there });
           inv = (
             good-near P S C L M k laws c h (w .mem) (laid P S C L M k (l .mem) (w .mem)) g same long,
             i .1 ∙ sym (file-near P S C L M k laws c h (w .mem) (laid P S C L M k (l .mem) (w .mem)) g same long),

@@ -1,5 +1,5 @@
--- The claim has teeth: wrong stores do not meet it. Each is our store, at small sizes, with one call done wrong; a concrete list of calls shows the read or
--- the ground that differs.
+-- The claim has teeth: ten wrong stores do not meet it. Each is our store, at small sizes, with something done wrong; a concrete list of calls shows the read,
+-- the ground or the length that differs.
 use mathlib.Core.Path.{_≡_, refl}
 use Prim.Native.Nat.{ℕ, zero, suc, _+_, _-_, _*_, _/_, _≤_, _<_}
 use native.Mathlib.Omega.{arith}
@@ -9,7 +9,7 @@ use lib.Dec.{ltb, leb, eqb}
 use lib.ListN.{length, take, drop, getD}
 use borrow.Author.Tests.{ltb-true}
 use Rattle.config.specs.Pages.{count}
-use Rattle.config.specs.declared.refusal.Refusal.the-variants.{ZeroExtentLimitExceeded}
+use Rattle.config.specs.declared.refusal.Refusal.the-variants.{OffsetOverflow, ZeroExtentLimitExceeded, BufferTooShort}
 use Rattle.memory.specs.Bytes.{zeros, overwrite, resize}
 use Rattle.memory.specs.Laws.{split}
 use Rattle.memory.specs.Growth.{growTo as growMemory, required as requiredPages}
@@ -34,9 +34,9 @@ use Rattle.store.specs.Small.{smallCodec, smallSum, smallDecode, smallRuns, sma
 use Rattle.store.specs.Blocks.{importing, stale, refreshing, marks, afterCommit}
 use Rattle.store.specs.Calls.{Call, begin, read, write, truncate, commit, rollback, fileSize, importBegin, importChunk, importFinish, importCancel, export, checksum, refresh, refreshStep, Lent, Out, out, number, Mode, idle, update, modeOf, short, withMem, withBuffers}
 use Rattle.store.specs.Plan.{storePlan}
-use Rattle.store.specs.Store.{working, noOverlay, ended, image, imageBytes, over, unchanged, plannedRuns, commitOver, inUpdate, store}
+use Rattle.store.specs.Store.{refuse, working, noOverlay, ended, image, imageBytes, over, unchanged, plannedRuns, commitOver, inUpdate, store}
 use Rattle.store.specs.Opening.{outside, open′}
-use Rattle.plain_file.specs.Plain.{closed, copied, spoil, draftWrite, draftTruncate, ground, fileGround, fileOf}
+use Rattle.plain_file.specs.Plain.{closed, copied, spoil, newRun, pagesWith, endsWithin, grownDirty, draftWrite, draftTruncate, ground, fileGround, fileOf}
 use Rattle.plain_file.specs.Claim.{Step, Lends, laid, leaves, Turn, Promise, Claim}
 use Rattle.plain_file.specs.Demand3.{meets}
 
@@ -52,7 +52,7 @@ Small = Claim 2 24 1 3 1000 smallCodec
 -- the claim can be met
 pub right-meets : Small right
 unfolding right
-right-meets = meets 2 24 1 3 1000 smallCodec (omega arith) (omega arith) small-lawful
+right-meets = meets 2 24 1 3 1000 smallCodec (omega arith) (omega arith) (omega arith) small-lawful
 
 -- an image of n bytes behind the first stable page
 abbrev blockOf : ℕ → Superblock
@@ -95,27 +95,27 @@ all-bytes (x ∷ l) h (suc i) = split (ltb x 256) (λ t. all-bytes l (rw t at h)
 
 -- both images are accepted
 accepted4 : number (open′ 2 24 1 3 1000 smallCodec 2 (lentWith 4 .mem) .answer) ≡ 0
-unfolding count zeros overwrite resize growMemory requiredPages normalized within merge insert add around remove flatRuns additions addOne remain plan put refill tabulate addNumberIf span grownNumbers imageByte imagePage pushRun raw overByte budgetBytes raised touch blank copy stretch patch finish grow growTo chop tail truncated wholePage overWrite written fresh lookUp sized passing marked tryTouch tryPatch tryFinish tryGrow tryGrowTo tryTail tryChop tryTruncate tryWrite frameCount entryCount wiped cached shortBuffers view overlayOf putBack stored smallCodec smallSum smallDecode smallRuns smallLoad smallFresh importing stale refreshing marks afterCommit short storePlan noOverlay imageBytes unchanged plannedRuns commitOver store outside open′ copied spoil draftWrite draftTruncate ground fileGround fileOf laid leaves lentWith
+unfolding count zeros overwrite resize growMemory requiredPages normalized within merge insert add around remove flatRuns additions addOne remain plan put refill tabulate addNumberIf span grownNumbers imageByte imagePage pushRun raw overByte budgetBytes raised touch blank copy stretch patch finish grow growTo chop tail truncated wholePage overWrite written fresh lookUp sized passing marked tryTouch tryPatch tryFinish tryGrow tryGrowTo tryTail tryChop tryTruncate tryWrite frameCount entryCount wiped cached shortBuffers view overlayOf putBack stored smallCodec smallSum smallDecode smallRuns smallLoad smallFresh importing stale refreshing marks afterCommit short storePlan noOverlay imageBytes unchanged plannedRuns commitOver store outside open′ copied spoil newRun pagesWith endsWithin grownDirty draftWrite draftTruncate ground fileGround fileOf laid leaves lentWith
 accepted4 = refl
 
 accepted3 : number (open′ 2 24 1 3 1000 smallCodec 2 (lentWith 3 .mem) .answer) ≡ 0
-unfolding count zeros overwrite resize growMemory requiredPages normalized within merge insert add around remove flatRuns additions addOne remain plan put refill tabulate addNumberIf span grownNumbers imageByte imagePage pushRun raw overByte budgetBytes raised touch blank copy stretch patch finish grow growTo chop tail truncated wholePage overWrite written fresh lookUp sized passing marked tryTouch tryPatch tryFinish tryGrow tryGrowTo tryTail tryChop tryTruncate tryWrite frameCount entryCount wiped cached shortBuffers view overlayOf putBack stored smallCodec smallSum smallDecode smallRuns smallLoad smallFresh importing stale refreshing marks afterCommit short storePlan noOverlay imageBytes unchanged plannedRuns commitOver store outside open′ copied spoil draftWrite draftTruncate ground fileGround fileOf laid leaves lentWith
+unfolding count zeros overwrite resize growMemory requiredPages normalized within merge insert add around remove flatRuns additions addOne remain plan put refill tabulate addNumberIf span grownNumbers imageByte imagePage pushRun raw overByte budgetBytes raised touch blank copy stretch patch finish grow growTo chop tail truncated wholePage overWrite written fresh lookUp sized passing marked tryTouch tryPatch tryFinish tryGrow tryGrowTo tryTail tryChop tryTruncate tryWrite frameCount entryCount wiped cached shortBuffers view overlayOf putBack stored smallCodec smallSum smallDecode smallRuns smallLoad smallFresh importing stale refreshing marks afterCommit short storePlan noOverlay imageBytes unchanged plannedRuns commitOver store outside open′ copied spoil newRun pagesWith endsWithin grownDirty draftWrite draftTruncate ground fileGround fileOf laid leaves lentWith
 accepted3 = refl
 
 bytes4 : allBytes (lentWith 4 .mem) ≡ true
-unfolding count zeros overwrite resize growMemory requiredPages normalized within merge insert add around remove flatRuns additions addOne remain plan put refill tabulate addNumberIf span grownNumbers imageByte imagePage pushRun raw overByte budgetBytes raised touch blank copy stretch patch finish grow growTo chop tail truncated wholePage overWrite written fresh lookUp sized passing marked tryTouch tryPatch tryFinish tryGrow tryGrowTo tryTail tryChop tryTruncate tryWrite frameCount entryCount wiped cached shortBuffers view overlayOf putBack stored smallCodec smallSum smallDecode smallRuns smallLoad smallFresh importing stale refreshing marks afterCommit short storePlan noOverlay imageBytes unchanged plannedRuns commitOver store outside open′ copied spoil draftWrite draftTruncate ground fileGround fileOf laid leaves lentWith
+unfolding count zeros overwrite resize growMemory requiredPages normalized within merge insert add around remove flatRuns additions addOne remain plan put refill tabulate addNumberIf span grownNumbers imageByte imagePage pushRun raw overByte budgetBytes raised touch blank copy stretch patch finish grow growTo chop tail truncated wholePage overWrite written fresh lookUp sized passing marked tryTouch tryPatch tryFinish tryGrow tryGrowTo tryTail tryChop tryTruncate tryWrite frameCount entryCount wiped cached shortBuffers view overlayOf putBack stored smallCodec smallSum smallDecode smallRuns smallLoad smallFresh importing stale refreshing marks afterCommit short storePlan noOverlay imageBytes unchanged plannedRuns commitOver store outside open′ copied spoil newRun pagesWith endsWithin grownDirty draftWrite draftTruncate ground fileGround fileOf laid leaves lentWith
 bytes4 = refl
 
 bytes3 : allBytes (lentWith 3 .mem) ≡ true
-unfolding count zeros overwrite resize growMemory requiredPages normalized within merge insert add around remove flatRuns additions addOne remain plan put refill tabulate addNumberIf span grownNumbers imageByte imagePage pushRun raw overByte budgetBytes raised touch blank copy stretch patch finish grow growTo chop tail truncated wholePage overWrite written fresh lookUp sized passing marked tryTouch tryPatch tryFinish tryGrow tryGrowTo tryTail tryChop tryTruncate tryWrite frameCount entryCount wiped cached shortBuffers view overlayOf putBack stored smallCodec smallSum smallDecode smallRuns smallLoad smallFresh importing stale refreshing marks afterCommit short storePlan noOverlay imageBytes unchanged plannedRuns commitOver store outside open′ copied spoil draftWrite draftTruncate ground fileGround fileOf laid leaves lentWith
+unfolding count zeros overwrite resize growMemory requiredPages normalized within merge insert add around remove flatRuns additions addOne remain plan put refill tabulate addNumberIf span grownNumbers imageByte imagePage pushRun raw overByte budgetBytes raised touch blank copy stretch patch finish grow growTo chop tail truncated wholePage overWrite written fresh lookUp sized passing marked tryTouch tryPatch tryFinish tryGrow tryGrowTo tryTail tryChop tryTruncate tryWrite frameCount entryCount wiped cached shortBuffers view overlayOf putBack stored smallCodec smallSum smallDecode smallRuns smallLoad smallFresh importing stale refreshing marks afterCommit short storePlan noOverlay imageBytes unchanged plannedRuns commitOver store outside open′ copied spoil newRun pagesWith endsWithin grownDirty draftWrite draftTruncate ground fileGround fileOf laid leaves lentWith
 bytes3 = refl
 
 long4 : length (lentWith 4 .mem) ≤ 1000
-unfolding count zeros overwrite resize growMemory requiredPages normalized within merge insert add around remove flatRuns additions addOne remain plan put refill tabulate addNumberIf span grownNumbers imageByte imagePage pushRun raw overByte budgetBytes raised touch blank copy stretch patch finish grow growTo chop tail truncated wholePage overWrite written fresh lookUp sized passing marked tryTouch tryPatch tryFinish tryGrow tryGrowTo tryTail tryChop tryTruncate tryWrite frameCount entryCount wiped cached shortBuffers view overlayOf putBack stored smallCodec smallSum smallDecode smallRuns smallLoad smallFresh importing stale refreshing marks afterCommit short storePlan noOverlay imageBytes unchanged plannedRuns commitOver store outside open′ copied spoil draftWrite draftTruncate ground fileGround fileOf laid leaves lentWith
+unfolding count zeros overwrite resize growMemory requiredPages normalized within merge insert add around remove flatRuns additions addOne remain plan put refill tabulate addNumberIf span grownNumbers imageByte imagePage pushRun raw overByte budgetBytes raised touch blank copy stretch patch finish grow growTo chop tail truncated wholePage overWrite written fresh lookUp sized passing marked tryTouch tryPatch tryFinish tryGrow tryGrowTo tryTail tryChop tryTruncate tryWrite frameCount entryCount wiped cached shortBuffers view overlayOf putBack stored smallCodec smallSum smallDecode smallRuns smallLoad smallFresh importing stale refreshing marks afterCommit short storePlan noOverlay imageBytes unchanged plannedRuns commitOver store outside open′ copied spoil newRun pagesWith endsWithin grownDirty draftWrite draftTruncate ground fileGround fileOf laid leaves lentWith
 long4 = omega arith
 
 long3 : length (lentWith 3 .mem) ≤ 1000
-unfolding count zeros overwrite resize growMemory requiredPages normalized within merge insert add around remove flatRuns additions addOne remain plan put refill tabulate addNumberIf span grownNumbers imageByte imagePage pushRun raw overByte budgetBytes raised touch blank copy stretch patch finish grow growTo chop tail truncated wholePage overWrite written fresh lookUp sized passing marked tryTouch tryPatch tryFinish tryGrow tryGrowTo tryTail tryChop tryTruncate tryWrite frameCount entryCount wiped cached shortBuffers view overlayOf putBack stored smallCodec smallSum smallDecode smallRuns smallLoad smallFresh importing stale refreshing marks afterCommit short storePlan noOverlay imageBytes unchanged plannedRuns commitOver store outside open′ copied spoil draftWrite draftTruncate ground fileGround fileOf laid leaves lentWith
+unfolding count zeros overwrite resize growMemory requiredPages normalized within merge insert add around remove flatRuns additions addOne remain plan put refill tabulate addNumberIf span grownNumbers imageByte imagePage pushRun raw overByte budgetBytes raised touch blank copy stretch patch finish grow growTo chop tail truncated wholePage overWrite written fresh lookUp sized passing marked tryTouch tryPatch tryFinish tryGrow tryGrowTo tryTail tryChop tryTruncate tryWrite frameCount entryCount wiped cached shortBuffers view overlayOf putBack stored smallCodec smallSum smallDecode smallRuns smallLoad smallFresh importing stale refreshing marks afterCommit short storePlan noOverlay imageBytes unchanged plannedRuns commitOver store outside open′ copied spoil newRun pagesWith endsWithin grownDirty draftWrite draftTruncate ground fileGround fileOf laid leaves lentWith
 long3 = omega arith
 
 promised4 : (step : Step) → Small step → (cs : List Call) → Promised step 4 cs
@@ -171,8 +171,8 @@ unfoldable sizeOnlyCalls : List Call
 sizeOnlyCalls = begin0 ∷ write 0 (9 ∷ []) ∷ commit ∷ read 0 (zeros 3) ∷ []
 
 sizeOnly-shows : Promised sizeOnly 4 sizeOnlyCalls → _≡_ {A = List ℕ} (5 ∷ 6 ∷ 7 ∷ []) (9 ∷ 6 ∷ 7 ∷ [])
-unfolding count zeros overwrite resize growMemory requiredPages normalized within merge insert add around remove flatRuns additions addOne remain plan put refill tabulate addNumberIf span grownNumbers imageByte imagePage pushRun raw overByte budgetBytes raised touch blank copy stretch patch finish grow growTo chop tail truncated wholePage overWrite written fresh lookUp sized passing marked tryTouch tryPatch tryFinish tryGrow tryGrowTo tryTail tryChop tryTruncate tryWrite frameCount entryCount wiped cached shortBuffers view overlayOf putBack stored smallCodec smallSum smallDecode smallRuns smallLoad smallFresh importing stale refreshing marks afterCommit short storePlan noOverlay imageBytes unchanged plannedRuns commitOver store outside open′ copied spoil draftWrite draftTruncate ground fileGround fileOf laid leaves lentWith right begin0 sizeOnlyCalls sizeOnly
-sizeOnly-shows h = h (lends-self _ _) tt .1 (lends-self _ _) tt .1 (lends-self _ _) tt .1 (lends-self _ _) tt .0 .shown
+unfolding count zeros overwrite resize growMemory requiredPages normalized within merge insert add around remove flatRuns additions addOne remain plan put refill tabulate addNumberIf span grownNumbers imageByte imagePage pushRun raw overByte budgetBytes raised touch blank copy stretch patch finish grow growTo chop tail truncated wholePage overWrite written fresh lookUp sized passing marked tryTouch tryPatch tryFinish tryGrow tryGrowTo tryTail tryChop tryTruncate tryWrite frameCount entryCount wiped cached shortBuffers view overlayOf putBack stored smallCodec smallSum smallDecode smallRuns smallLoad smallFresh importing stale refreshing marks afterCommit short storePlan noOverlay imageBytes unchanged plannedRuns commitOver store outside open′ copied spoil newRun pagesWith endsWithin grownDirty draftWrite draftTruncate ground fileGround fileOf laid leaves lentWith right begin0 sizeOnlyCalls sizeOnly
+sizeOnly-shows h = h (lends-self _ _) tt .2 (lends-self _ _) tt .2 (lends-self _ _) tt .2 (lends-self _ _) tt .0 .shown
 
 pub sizeOnly-fails : Small sizeOnly → ⊥
 sizeOnly-fails h =
@@ -195,8 +195,8 @@ unfoldable idlerCalls : List Call
 idlerCalls = begin0 ∷ write 0 (9 ∷ []) ∷ commit ∷ read 0 (zeros 3) ∷ []
 
 idler-shows : Promised idler 4 idlerCalls → _≡_ {A = List ℕ} (5 ∷ 6 ∷ 7 ∷ []) (9 ∷ 6 ∷ 7 ∷ [])
-unfolding count zeros overwrite resize growMemory requiredPages normalized within merge insert add around remove flatRuns additions addOne remain plan put refill tabulate addNumberIf span grownNumbers imageByte imagePage pushRun raw overByte budgetBytes raised touch blank copy stretch patch finish grow growTo chop tail truncated wholePage overWrite written fresh lookUp sized passing marked tryTouch tryPatch tryFinish tryGrow tryGrowTo tryTail tryChop tryTruncate tryWrite frameCount entryCount wiped cached shortBuffers view overlayOf putBack stored smallCodec smallSum smallDecode smallRuns smallLoad smallFresh importing stale refreshing marks afterCommit short storePlan noOverlay imageBytes unchanged plannedRuns commitOver store outside open′ copied spoil draftWrite draftTruncate ground fileGround fileOf laid leaves lentWith right begin0 idlerCalls idler
-idler-shows h = h (lends-self _ _) tt .1 (lends-self _ _) tt .1 (lends-self _ _) tt .1 (lends-self _ _) tt .0 .shown
+unfolding count zeros overwrite resize growMemory requiredPages normalized within merge insert add around remove flatRuns additions addOne remain plan put refill tabulate addNumberIf span grownNumbers imageByte imagePage pushRun raw overByte budgetBytes raised touch blank copy stretch patch finish grow growTo chop tail truncated wholePage overWrite written fresh lookUp sized passing marked tryTouch tryPatch tryFinish tryGrow tryGrowTo tryTail tryChop tryTruncate tryWrite frameCount entryCount wiped cached shortBuffers view overlayOf putBack stored smallCodec smallSum smallDecode smallRuns smallLoad smallFresh importing stale refreshing marks afterCommit short storePlan noOverlay imageBytes unchanged plannedRuns commitOver store outside open′ copied spoil newRun pagesWith endsWithin grownDirty draftWrite draftTruncate ground fileGround fileOf laid leaves lentWith right begin0 idlerCalls idler
+idler-shows h = h (lends-self _ _) tt .2 (lends-self _ _) tt .2 (lends-self _ _) tt .2 (lends-self _ _) tt .0 .shown
 
 pub idler-fails : Small idler → ⊥
 idler-fails h =
@@ -227,8 +227,8 @@ unfoldable firstPageCalls : List Call
 firstPageCalls = begin0 ∷ write 1 (9 ∷ 9 ∷ []) ∷ read 0 (zeros 4) ∷ []
 
 firstPage-shows : Promised firstPage 4 firstPageCalls → _≡_ {A = List ℕ} (5 ∷ 9 ∷ 7 ∷ 8 ∷ []) (5 ∷ 9 ∷ 9 ∷ 8 ∷ [])
-unfolding count zeros overwrite resize growMemory requiredPages normalized within merge insert add around remove flatRuns additions addOne remain plan put refill tabulate addNumberIf span grownNumbers imageByte imagePage pushRun raw overByte budgetBytes raised touch blank copy stretch patch finish grow growTo chop tail truncated wholePage overWrite written fresh lookUp sized passing marked tryTouch tryPatch tryFinish tryGrow tryGrowTo tryTail tryChop tryTruncate tryWrite frameCount entryCount wiped cached shortBuffers view overlayOf putBack stored smallCodec smallSum smallDecode smallRuns smallLoad smallFresh importing stale refreshing marks afterCommit short storePlan noOverlay imageBytes unchanged plannedRuns commitOver store outside open′ copied spoil draftWrite draftTruncate ground fileGround fileOf laid leaves lentWith right begin0 firstPageCalls firstPage
-firstPage-shows h = h (lends-self _ _) tt .1 (lends-self _ _) tt .1 (lends-self _ _) tt .0 .shown
+unfolding count zeros overwrite resize growMemory requiredPages normalized within merge insert add around remove flatRuns additions addOne remain plan put refill tabulate addNumberIf span grownNumbers imageByte imagePage pushRun raw overByte budgetBytes raised touch blank copy stretch patch finish grow growTo chop tail truncated wholePage overWrite written fresh lookUp sized passing marked tryTouch tryPatch tryFinish tryGrow tryGrowTo tryTail tryChop tryTruncate tryWrite frameCount entryCount wiped cached shortBuffers view overlayOf putBack stored smallCodec smallSum smallDecode smallRuns smallLoad smallFresh importing stale refreshing marks afterCommit short storePlan noOverlay imageBytes unchanged plannedRuns commitOver store outside open′ copied spoil newRun pagesWith endsWithin grownDirty draftWrite draftTruncate ground fileGround fileOf laid leaves lentWith right begin0 firstPageCalls firstPage
+firstPage-shows h = h (lends-self _ _) tt .2 (lends-self _ _) tt .2 (lends-self _ _) tt .0 .shown
 
 pub firstPage-fails : Small firstPage → ⊥
 firstPage-fails h =
@@ -251,7 +251,7 @@ unfoldable blindCalls : List Call
 blindCalls = read 0 (zeros 3) ∷ []
 
 blind-shows : Promised blind 4 blindCalls → _≡_ {A = List ℕ} (0 ∷ 0 ∷ 0 ∷ []) (5 ∷ 6 ∷ 7 ∷ [])
-unfolding count zeros overwrite resize growMemory requiredPages normalized within merge insert add around remove flatRuns additions addOne remain plan put refill tabulate addNumberIf span grownNumbers imageByte imagePage pushRun raw overByte budgetBytes raised touch blank copy stretch patch finish grow growTo chop tail truncated wholePage overWrite written fresh lookUp sized passing marked tryTouch tryPatch tryFinish tryGrow tryGrowTo tryTail tryChop tryTruncate tryWrite frameCount entryCount wiped cached shortBuffers view overlayOf putBack stored smallCodec smallSum smallDecode smallRuns smallLoad smallFresh importing stale refreshing marks afterCommit short storePlan noOverlay imageBytes unchanged plannedRuns commitOver store outside open′ copied spoil draftWrite draftTruncate ground fileGround fileOf laid leaves lentWith right begin0 blindCalls blind
+unfolding count zeros overwrite resize growMemory requiredPages normalized within merge insert add around remove flatRuns additions addOne remain plan put refill tabulate addNumberIf span grownNumbers imageByte imagePage pushRun raw overByte budgetBytes raised touch blank copy stretch patch finish grow growTo chop tail truncated wholePage overWrite written fresh lookUp sized passing marked tryTouch tryPatch tryFinish tryGrow tryGrowTo tryTail tryChop tryTruncate tryWrite frameCount entryCount wiped cached shortBuffers view overlayOf putBack stored smallCodec smallSum smallDecode smallRuns smallLoad smallFresh importing stale refreshing marks afterCommit short storePlan noOverlay imageBytes unchanged plannedRuns commitOver store outside open′ copied spoil newRun pagesWith endsWithin grownDirty draftWrite draftTruncate ground fileGround fileOf laid leaves lentWith right begin0 blindCalls blind
 blind-shows h = h (lends-self _ _) tt .0 .shown
 
 pub blind-fails : Small blind → ⊥
@@ -275,8 +275,8 @@ unfoldable neverCalls : List Call
 neverCalls = begin0 ∷ write 0 (9 ∷ []) ∷ commit ∷ []
 
 never-shows : Promised never 4 neverCalls → _≡_ {A = ℕ} (31) (0)
-unfolding count zeros overwrite resize growMemory requiredPages normalized within merge insert add around remove flatRuns additions addOne remain plan put refill tabulate addNumberIf span grownNumbers imageByte imagePage pushRun raw overByte budgetBytes raised touch blank copy stretch patch finish grow growTo chop tail truncated wholePage overWrite written fresh lookUp sized passing marked tryTouch tryPatch tryFinish tryGrow tryGrowTo tryTail tryChop tryTruncate tryWrite frameCount entryCount wiped cached shortBuffers view overlayOf putBack stored smallCodec smallSum smallDecode smallRuns smallLoad smallFresh importing stale refreshing marks afterCommit short storePlan noOverlay imageBytes unchanged plannedRuns commitOver store outside open′ copied spoil draftWrite draftTruncate ground fileGround fileOf laid leaves lentWith right begin0 neverCalls never
-never-shows h = h (lends-self _ _) tt .1 (lends-self _ _) tt .1 (lends-self _ _) tt .0 .0
+unfolding count zeros overwrite resize growMemory requiredPages normalized within merge insert add around remove flatRuns additions addOne remain plan put refill tabulate addNumberIf span grownNumbers imageByte imagePage pushRun raw overByte budgetBytes raised touch blank copy stretch patch finish grow growTo chop tail truncated wholePage overWrite written fresh lookUp sized passing marked tryTouch tryPatch tryFinish tryGrow tryGrowTo tryTail tryChop tryTruncate tryWrite frameCount entryCount wiped cached shortBuffers view overlayOf putBack stored smallCodec smallSum smallDecode smallRuns smallLoad smallFresh importing stale refreshing marks afterCommit short storePlan noOverlay imageBytes unchanged plannedRuns commitOver store outside open′ copied spoil newRun pagesWith endsWithin grownDirty draftWrite draftTruncate ground fileGround fileOf laid leaves lentWith right begin0 neverCalls never
+never-shows h = h (lends-self _ _) tt .2 (lends-self _ _) tt .2 (lends-self _ _) tt .0 .0
 
 pub never-fails : Small never → ⊥
 never-fails h =
@@ -305,8 +305,8 @@ unfoldable endOnlyCalls : List Call
 endOnlyCalls = begin0 ∷ write 2 (9 ∷ []) ∷ truncate 2 ∷ truncate 4 ∷ read 2 (zeros 1) ∷ []
 
 endOnly-shows : Promised endOnly 4 endOnlyCalls → _≡_ {A = List ℕ} (9 ∷ []) (0 ∷ [])
-unfolding count zeros overwrite resize growMemory requiredPages normalized within merge insert add around remove flatRuns additions addOne remain plan put refill tabulate addNumberIf span grownNumbers imageByte imagePage pushRun raw overByte budgetBytes raised touch blank copy stretch patch finish grow growTo chop tail truncated wholePage overWrite written fresh lookUp sized passing marked tryTouch tryPatch tryFinish tryGrow tryGrowTo tryTail tryChop tryTruncate tryWrite frameCount entryCount wiped cached shortBuffers view overlayOf putBack stored smallCodec smallSum smallDecode smallRuns smallLoad smallFresh importing stale refreshing marks afterCommit short storePlan noOverlay imageBytes unchanged plannedRuns commitOver store outside open′ copied spoil draftWrite draftTruncate ground fileGround fileOf laid leaves lentWith right begin0 endOnlyCalls endOnly
-endOnly-shows h = h (lends-self _ _) tt .1 (lends-self _ _) tt .1 (lends-self _ _) (omega arith) .1 (lends-self _ _) (omega arith) .1 (lends-self _ _) tt .0 .shown
+unfolding count zeros overwrite resize growMemory requiredPages normalized within merge insert add around remove flatRuns additions addOne remain plan put refill tabulate addNumberIf span grownNumbers imageByte imagePage pushRun raw overByte budgetBytes raised touch blank copy stretch patch finish grow growTo chop tail truncated wholePage overWrite written fresh lookUp sized passing marked tryTouch tryPatch tryFinish tryGrow tryGrowTo tryTail tryChop tryTruncate tryWrite frameCount entryCount wiped cached shortBuffers view overlayOf putBack stored smallCodec smallSum smallDecode smallRuns smallLoad smallFresh importing stale refreshing marks afterCommit short storePlan noOverlay imageBytes unchanged plannedRuns commitOver store outside open′ copied spoil newRun pagesWith endsWithin grownDirty draftWrite draftTruncate ground fileGround fileOf laid leaves lentWith right begin0 endOnlyCalls endOnly
+endOnly-shows h = h (lends-self _ _) tt .2 (lends-self _ _) tt .2 (lends-self _ _) (omega arith) .2 (lends-self _ _) (omega arith) .2 (lends-self _ _) tt .0 .shown
 
 pub endOnly-fails : Small endOnly → ⊥
 endOnly-fails h =
@@ -336,8 +336,8 @@ unfoldable recordFirstCalls : List Call
 recordFirstCalls = begin0 ∷ write 4 (9 ∷ []) ∷ read 4 (zeros 1) ∷ []
 
 recordFirst-shows : Promised recordFirst 4 recordFirstCalls → _≡_ {A = List ℕ} (0 ∷ []) (9 ∷ [])
-unfolding count zeros overwrite resize growMemory requiredPages normalized within merge insert add around remove flatRuns additions addOne remain plan put refill tabulate addNumberIf span grownNumbers imageByte imagePage pushRun raw overByte budgetBytes raised touch blank copy stretch patch finish grow growTo chop tail truncated wholePage overWrite written fresh lookUp sized passing marked tryTouch tryPatch tryFinish tryGrow tryGrowTo tryTail tryChop tryTruncate tryWrite frameCount entryCount wiped cached shortBuffers view overlayOf putBack stored smallCodec smallSum smallDecode smallRuns smallLoad smallFresh importing stale refreshing marks afterCommit short storePlan noOverlay imageBytes unchanged plannedRuns commitOver store outside open′ copied spoil draftWrite draftTruncate ground fileGround fileOf laid leaves lentWith right begin0 recordFirstCalls recordFirst
-recordFirst-shows h = h (lends-self _ _) tt .1 (lends-self _ _) tt .1 (lends-self _ _) tt .0 .shown
+unfolding count zeros overwrite resize growMemory requiredPages normalized within merge insert add around remove flatRuns additions addOne remain plan put refill tabulate addNumberIf span grownNumbers imageByte imagePage pushRun raw overByte budgetBytes raised touch blank copy stretch patch finish grow growTo chop tail truncated wholePage overWrite written fresh lookUp sized passing marked tryTouch tryPatch tryFinish tryGrow tryGrowTo tryTail tryChop tryTruncate tryWrite frameCount entryCount wiped cached shortBuffers view overlayOf putBack stored smallCodec smallSum smallDecode smallRuns smallLoad smallFresh importing stale refreshing marks afterCommit short storePlan noOverlay imageBytes unchanged plannedRuns commitOver store outside open′ copied spoil newRun pagesWith endsWithin grownDirty draftWrite draftTruncate ground fileGround fileOf laid leaves lentWith right begin0 recordFirstCalls recordFirst
+recordFirst-shows h = h (lends-self _ _) tt .2 (lends-self _ _) tt .2 (lends-self _ _) tt .0 .shown
 
 pub recordFirst-fails : Small recordFirst → ⊥
 recordFirst-fails h =
@@ -370,10 +370,54 @@ unfoldable trustingCalls : List Call
 trustingCalls = begin0 ∷ truncate 4 ∷ commit ∷ read 3 (zeros 1) ∷ []
 
 trusting-shows : Promised trusting 3 trustingCalls → _≡_ {A = List ℕ} (8 ∷ []) (0 ∷ [])
-unfolding count zeros overwrite resize growMemory requiredPages normalized within merge insert add around remove flatRuns additions addOne remain plan put refill tabulate addNumberIf span grownNumbers imageByte imagePage pushRun raw overByte budgetBytes raised touch blank copy stretch patch finish grow growTo chop tail truncated wholePage overWrite written fresh lookUp sized passing marked tryTouch tryPatch tryFinish tryGrow tryGrowTo tryTail tryChop tryTruncate tryWrite frameCount entryCount wiped cached shortBuffers view overlayOf putBack stored smallCodec smallSum smallDecode smallRuns smallLoad smallFresh importing stale refreshing marks afterCommit short storePlan noOverlay imageBytes unchanged plannedRuns commitOver store outside open′ copied spoil draftWrite draftTruncate ground fileGround fileOf laid leaves lentWith right begin0 trustingCalls trusting
-trusting-shows h = h (lends-self _ _) tt .1 (lends-self _ _) (omega arith) .1 (lends-self _ _) tt .1 (lends-self _ _) tt .0 .shown
+unfolding count zeros overwrite resize growMemory requiredPages normalized within merge insert add around remove flatRuns additions addOne remain plan put refill tabulate addNumberIf span grownNumbers imageByte imagePage pushRun raw overByte budgetBytes raised touch blank copy stretch patch finish grow growTo chop tail truncated wholePage overWrite written fresh lookUp sized passing marked tryTouch tryPatch tryFinish tryGrow tryGrowTo tryTail tryChop tryTruncate tryWrite frameCount entryCount wiped cached shortBuffers view overlayOf putBack stored smallCodec smallSum smallDecode smallRuns smallLoad smallFresh importing stale refreshing marks afterCommit short storePlan noOverlay imageBytes unchanged plannedRuns commitOver store outside open′ copied spoil newRun pagesWith endsWithin grownDirty draftWrite draftTruncate ground fileGround fileOf laid leaves lentWith right begin0 trustingCalls trusting
+trusting-shows h = h (lends-self _ _) tt .2 (lends-self _ _) (omega arith) .2 (lends-self _ _) tt .2 (lends-self _ _) tt .0 .shown
 
 pub trusting-fails : Small trusting → ⊥
 trusting-fails h =
     let e : _≡_ {A = List ℕ} (8 ∷ []) (0 ∷ []) = trusting-shows (promised3 trusting h trustingCalls) in
     let z : _≡_ {A = ℕ} 8 0 = cc in omega arith
+
+-- ## A store that asks for a thousand more stable pages after each call
+
+abbrev pub more : State → State
+more s = record { count = record { 0 = s .count .0 + 1000 }; block = s .block; updating = s .updating; overlay = s .overlay }
+
+unfoldable pub hoard : Step
+hoard s l c = let x : Out = right s l c in cond (short 2 24 1 3 s l c) (refuse s l c BufferTooShort) (out (more (x .state)) (x .lent) (x .answer) (x .filled))
+
+unfoldable hoardCalls : List Call
+hoardCalls = read 0 (zeros 3) ∷ []
+
+hoard-shows : Promised hoard 4 hoardCalls → 24048 ≤ 48
+unfolding count zeros overwrite resize growMemory requiredPages normalized within merge insert add around remove flatRuns additions addOne remain plan put refill tabulate addNumberIf span grownNumbers imageByte imagePage pushRun raw overByte budgetBytes raised touch blank copy stretch patch finish grow growTo chop tail truncated wholePage overWrite written fresh lookUp sized passing marked tryTouch tryPatch tryFinish tryGrow tryGrowTo tryTail tryChop tryTruncate tryWrite frameCount entryCount wiped cached shortBuffers view overlayOf putBack stored smallCodec smallSum smallDecode smallRuns smallLoad smallFresh importing stale refreshing marks afterCommit short storePlan noOverlay imageBytes unchanged plannedRuns commitOver store outside open′ copied spoil newRun pagesWith endsWithin grownDirty draftWrite draftTruncate ground fileGround fileOf laid leaves lentWith right hoardCalls hoard
+hoard-shows h = h (lends-self _ _) tt .1 .memory (omega arith)
+
+pub hoard-fails : Small hoard → ⊥
+hoard-fails h = let e : 24048 ≤ 48 = hoard-shows (promised4 hoard h hoardCalls) in omega arith
+
+-- ## A store that answers 20 to every write and truncation with no update open
+
+abbrev pub rangeOnly : State → Lent → Mode → Out → Out
+rangeOnly s l (update v) x = x
+rangeOnly s l idle x = over 2 24 1 3 1000 smallCodec s l (Refused OffsetOverflow)
+
+abbrev pub directs : Kind → State → Lent → Out → Out
+directs (reading o n) s l x = x
+directs (writing o bs) s l x = rangeOnly s l (modeOf s) x
+directs (truncating n) s l x = rangeOnly s l (modeOf s) x
+directs committing s l x = x
+directs other s l x = x
+
+unfoldable pub narrow : Step
+narrow s l c = directs (kindOf c) s l (right s l c)
+
+unfoldable narrowCalls : List Call
+narrowCalls = write 0 (9 ∷ []) ∷ []
+
+narrow-shows : Promised narrow 4 narrowCalls → _≡_ {A = ℕ} 0 20
+unfolding count zeros overwrite resize growMemory requiredPages normalized within merge insert add around remove flatRuns additions addOne remain plan put refill tabulate addNumberIf span grownNumbers imageByte imagePage pushRun raw overByte budgetBytes raised touch blank copy stretch patch finish grow growTo chop tail truncated wholePage overWrite written fresh lookUp sized passing marked tryTouch tryPatch tryFinish tryGrow tryGrowTo tryTail tryChop tryTruncate tryWrite frameCount entryCount wiped cached shortBuffers view overlayOf putBack stored smallCodec smallSum smallDecode smallRuns smallLoad smallFresh importing stale refreshing marks afterCommit short storePlan noOverlay imageBytes unchanged plannedRuns commitOver store outside open′ copied spoil newRun pagesWith endsWithin grownDirty draftWrite draftTruncate ground fileGround fileOf laid leaves lentWith right narrowCalls narrow
+narrow-shows h = h (lends-self _ _) tt .0 .range refl (omega arith)
+
+pub narrow-fails : Small narrow → ⊥
+narrow-fails h = let e : _≡_ {A = ℕ} 0 20 = narrow-shows (promised4 narrow h narrowCalls) in omega arith

@@ -1,3 +1,4 @@
+pub mod Cases
 pub mod Codec
 pub mod Blocks
 pub mod Calls
@@ -9,6 +10,8 @@ pub mod MemoryLaws
 pub mod CommitLaws
 pub mod StoreLaws
 pub mod BufferLengths
+pub mod Tries
+pub mod OnlyShort
 pub mod RealCodec
 pub mod OpeningLaws
 pub mod Small

@@ -27,6 +27,7 @@ use Rattle.store.specs.Calls.{number}
 use Rattle.store.specs.Opening.{Opened, outside, notOpened, openFresh, openLoaded, open′}
 use Rattle.store.specs.Lawful.{Fits, LoadedAs, Lawful, Good}
 use Rattle.store.specs.MemoryLaws.{Reaches, grow-cases, stored-length}
+use Rattle.store.specs.Cases.{by-test, no-or}
 
 -- a refusal has a number
 pub refusal-number : (r : Refusal) → numbersOf r .number ≡ 0 → ⊥
@@ -50,15 +51,6 @@ refusal-number (GrowFailed x y) e = omega arith
 refusal-number FramesFull e = omega arith
 refusal-number RecordFull e = omega arith
 refusal-number BufferTooShort e = omega arith
-
-no-or : (a b : Bool) → (a || b) ≡ false → (a ≡ false) × (b ≡ false)
-no-or true b h = clash refl h
-no-or false b h = (refl, h)
-
--- a conditional by its test
-by-test : {A : Type 0} (Q : A → Type 0) (b : Bool) (x y : A) → (b ≡ true → Q x) → (b ≡ false → Q y) → Q (cond b x y)
-by-test Q true x y f g = f refl
-by-test Q false x y f g = g refl
 
 module _ (P S C L M : ℕ) (k : Codec) (spos : 0 < S) (laws : Lawful S L M k) where
   pub record Opens (x : Opened) : Type 0 where

@@ -37,10 +37,7 @@ use Rattle.store.specs.Store.{budgetOf, refuse, ended, image, runsOf, ov
 use Rattle.store.specs.Lawful.{Lawful, Good}
 use Rattle.store.specs.MemoryLaws.{Reaches, pages-length}
 use Rattle.store.specs.CommitLaws.{newBlock, flushed, after}
-
-by-test : {A : Type 0} (Q : A → Type 0) (b : Bool) (x y : A) → (b ≡ true → Q x) → (b ≡ false → Q y) → Q (cond b x y)
-by-test Q true x y f g = f refl
-by-test Q false x y f g = g refl
+use Rattle.store.specs.Cases.{by-test}
 
 grow-length : (S n end : ℕ) (m : List ℕ) → length (growTo S n end m .mem) ≡ length m
 unfolding growTo

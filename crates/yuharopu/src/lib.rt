@@ -3,6 +3,23 @@
 mod transfer_calls;
 mod update_calls;
 
+pub use transfer_calls::yuharopu_begin_import;
+pub use transfer_calls::yuharopu_cancel_import;
+pub use transfer_calls::yuharopu_checksum;
+pub use transfer_calls::yuharopu_export_chunk;
+pub use transfer_calls::yuharopu_finish_import;
+pub use transfer_calls::yuharopu_import_chunk;
+pub use transfer_calls::yuharopu_refresh_checksum;
+pub use transfer_calls::yuharopu_refresh_checksum_chunk;
+pub use update_calls::yuharopu_begin_update;
+pub use update_calls::yuharopu_commit_update;
+pub use update_calls::yuharopu_dirty_page;
+pub use update_calls::yuharopu_file_size;
+pub use update_calls::yuharopu_open;
+pub use update_calls::yuharopu_read_at;
+pub use update_calls::yuharopu_rollback_update;
+pub use update_calls::yuharopu_truncate;
+pub use update_calls::yuharopu_write_at;
 ghost use mathlib.Core.Path.{_≡_};
 ghost use Rattle.config.specs.Pages.{count};
 ghost use Rattle.fnv.specs.Fnv.{fold, fnv1a64};
