@@ -12,7 +12,7 @@ ghost use Rattle.store.specs.Calls.{modeOf, buffersShort, short, commit};
 ghost use Rattle.store.specs.Store.{budgetOf, ended};
 ghost use Rattle.transfer.specs.OnMemory.{lent};
 
-// The runs of a work list for no frame: one more than an image has.
+// The runs of a work list for no frame: one more than an image can have.
 pub const WORK_RUNS: usize = Superblock::MAX_ZERO_EXTENTS as usize + 1;
 
 // A budget of which nothing is used yet.
