@@ -72,7 +72,9 @@ uint64_t yuharopu_plan(uint64_t *work, size_t work_len, const uint64_t *extents,
  * open (0 or 1); and the update's 19: its base size, size, dirty pages, record entries, clean pages, the numbers of
  * eight clean pages, whether it has a budget (0 or 1), the budget's pages and bytes, whether it was passed (0, 1 by
  * pages, 2 by bytes), the peaks of pages and bytes. Any bytes are taken; where a number is 0 or 1, any other counts
- * as 1.
+ * as 1, and of the version and the page size the low 32 bits count. No byte outside the lent slices is touched, but a
+ * forged size of the image is believed: its checksum and a refresh go over so many bytes, zeros where memory has none,
+ * up to 2^64 - 1 of them, and an export fills `dst` up to that size.
  *
  * `answer` has at least four places. Unless the call answers 35 its first four become the values of the answer, 0 where
  * there is none, and places after them stay.
@@ -178,7 +180,7 @@ uint64_t yuharopu_cancel_import(uint8_t *state, size_t state_len, uint8_t *mem, 
 uint64_t yuharopu_export_chunk(const uint8_t *state, size_t state_len, const uint8_t *mem, size_t mem_len,
                                uint64_t offset, uint8_t *dst, size_t dst_len, uint64_t *answer, size_t answer_len);
 
-/* answer[0] is the FNV-1a hash of the image's bytes. 12. */
+/* answer[0] is the FNV-1a hash of the image's bytes, as many as the size that the state has. 12. */
 uint64_t yuharopu_checksum(const uint8_t *state, size_t state_len, const uint8_t *mem, size_t mem_len, uint64_t *answer,
                            size_t answer_len);
 

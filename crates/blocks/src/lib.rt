@@ -8,19 +8,19 @@ ghost use Rattle.store.specs.Blocks.{bit, importing, stale, refreshing, marks, 
 pub fn is_importing(b: Superblock) -> bool
     ensures { λ r. ⌜ r ≡ importing b ⌝ }
 {
-    b.flags % 2 == 1
+    b.flags / Superblock::FLAG_IMPORTING % 2 == 1
 }
 
 fn is_stale(b: Superblock) -> bool
     ensures { λ r. ⌜ r ≡ stale b ⌝ }
 {
-    b.flags / 2 % 2 == 1
+    b.flags / Superblock::FLAG_CHECKSUM_STALE % 2 == 1
 }
 
 pub fn is_refreshing(b: Superblock) -> bool
     ensures { λ r. ⌜ r ≡ refreshing b ⌝ }
 {
-    b.flags / 4 % 2 == 1
+    b.flags / Superblock::FLAG_CHECKSUM_REFRESHING % 2 == 1
 }
 
 fn flag(set: bool) -> u64
@@ -29,11 +29,17 @@ fn flag(set: bool) -> u64
     if set { 1 } else { 0 }
 }
 
+// The bits from here on are carried on as they are.
+const UNKNOWN_FLAGS: u64 = 2 * Superblock::FLAG_CHECKSUM_REFRESHING;
+
 // The flags with these three marks.
 fn with_marks(importing: bool, stale: bool, refreshing: bool, flags: u64) -> u64
     ensures { λ r. ⌜ r ≡ marks importing stale refreshing flags ⌝ }
 {
-    flags / 8 * 8 + (flag(importing) + 2 * flag(stale) + 4 * flag(refreshing))
+    let set = Superblock::FLAG_IMPORTING * flag(importing)
+        + Superblock::FLAG_CHECKSUM_STALE * flag(stale)
+        + Superblock::FLAG_CHECKSUM_REFRESHING * flag(refreshing);
+    flags / UNKNOWN_FLAGS * UNKNOWN_FLAGS + set
 }
 
 fn with_flags(b: Superblock, flags: u64) -> Superblock
@@ -54,7 +60,7 @@ fn with_image(b: Superblock, base: u64, size: u64, runs: u64) -> Superblock
     next.db_base_offset = base;
     next.page_table_offset = 0;
     next.page_count = pages.0;
-    next.layout_version = 8;
+    next.layout_version = Superblock::LAYOUT_VERSION;
     next.zero_extent_count = runs;
     next
 }

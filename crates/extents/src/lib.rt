@@ -1,5 +1,6 @@
 // The plan of a commit: which zero runs the image has after it, or that they are too many.
 use config::Refusal;
+use meta::Superblock;
 ghost use mathlib.Core.Path.{_≡_};
 ghost use mathlib.Core.Bool.{true};
 ghost use Prim.Native.Nat.{_+_, _*_, _≤_, _<_};
@@ -12,8 +13,6 @@ ghost use Rattle.image_runs.specs.Image.{imageRuns};
 ghost use Rattle.extents.specs.Plan.{below, additions, addOne, addEach, removeEach, plan as planOf};
 ghost use Rattle.extents.specs.Outcome.{outcome, planned, Lent};
 ghost use Rattle.extents.specs.Steps.{told, Ready, Added, Left};
-
-pub const MAX_ZERO_EXTENTS: usize = 1_024;
 
 // How many zero runs the image has, which stand in front of the work list; or 31.
 pub enum Planned {
@@ -129,7 +128,7 @@ fn settle(
     ensures { λ r. ⌜ told 1024 r (now (work .exit)) ≡ planOf 16384 1024 old new (runsIn count (now (work .entry))) (runsIn entries (now (recorded .entry))) (take dirty (now (numbers .entry))) ⌝ }
 {
     let end = config::page_count_for_size(new);
-    let limit = MAX_ZERO_EXTENTS + count_below(numbers, dirty, end.0);
+    let limit = Superblock::MAX_ZERO_EXTENTS as usize + count_below(numbers, dirty, end.0);
     let resized = add_resized(work, count, limit, old, new);
     let added = add_record(work, resized, limit, recorded, entries);
     if limit < added {
@@ -143,7 +142,7 @@ fn finish(work: &mut [u64], count: usize) -> Planned
     requires { ⌜ 2048 ≤ length (now work) ⌝ }
     ensures { λ r. ⌜ outcome r (now (work .exit)) ≡ planned (length (now (work .entry))) (told 1024 count (now (work .entry))) ⌝ }
 {
-    if MAX_ZERO_EXTENTS < count {
+    if (Superblock::MAX_ZERO_EXTENTS as usize) < count {
         runs::clear(work, 0);
         return Planned::Refused(Refusal::ZeroExtentLimitExceeded);
     }

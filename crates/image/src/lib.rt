@@ -12,10 +12,6 @@ ghost use Rattle.update.specs.Lists.{tabulateFrom};
 ghost use Rattle.update.specs.Image.{imageIn};
 ghost use Rattle.image.specs.Reading.{imageOf, resealed, restored};
 
-const RUNS_OFFSET: usize = 160;
-
-const MAX_RUNS: usize = 1_024;
-
 pub fn image_of(b: Superblock) -> Image
     ensures { λ r. ⌜ r ≡ imageOf b ⌝ }
 {
@@ -90,17 +86,17 @@ fn copy_runs(out: &mut [u64], mem: &[u8], count: usize) -> usize
     requires { ⌜ 2048 ≤ length (now out) ⌝ }
     ensures { λ r. ⌜ (r ≡ imageCount count (now (mem .entry)) * 2) × (take r (now (out .exit)) ≡ imageNumbers count (now (mem .entry))) ⌝ }
 {
-    if mem.len() < RUNS_OFFSET {
+    if mem.len() < Superblock::EXTENTS_OFFSET {
         return 0;
     }
     let n = memory::least(
-        memory::least(count, MAX_RUNS),
-        (mem.len() - RUNS_OFFSET) / 16,
+        memory::least(count, Superblock::MAX_ZERO_EXTENTS as usize),
+        (mem.len() - Superblock::EXTENTS_OFFSET) / 16,
     )
         * 2;
     let mut i = 0;
     while i < n {
-        out[i] = meta::read_word(mem, RUNS_OFFSET + i * 8);
+        out[i] = meta::read_word(mem, Superblock::EXTENTS_OFFSET + i * 8);
         i += 1;
     }
     n

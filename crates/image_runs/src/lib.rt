@@ -1,4 +1,5 @@
 // The runs of an image, in its bytes.
+use meta::Superblock;
 use meta::ZeroExtent;
 use meta::read_word;
 ghost use mathlib.Core.Path.{_≡_};
@@ -10,17 +11,13 @@ ghost use Rattle.runs.specs.Sets.{covers, maximal};
 ghost use Rattle.runs.specs.Flat.{runsIn, out, laid};
 ghost use Rattle.image_runs.specs.Image.{imageCount, imageRuns};
 
-const RUNS_OFFSET: usize = 160;
-
-const MAX_RUNS: usize = 1_024;
-
 fn read(mem: &[u8], i: usize) -> ZeroExtent
     requires { ⌜ 176 + i * 16 ≤ length (now mem) ⌝ }
     ensures { λ r. ⌜ r ≡ run (wordAt (160 + i * 16) (now (mem .entry))) (wordAt (168 + i * 16) (now (mem .entry))) ⌝ }
 {
     ZeroExtent {
-        start: read_word(mem, RUNS_OFFSET + i * 16),
-        end: read_word(mem, RUNS_OFFSET + 8 + i * 16),
+        start: read_word(mem, Superblock::EXTENTS_OFFSET + i * 16),
+        end: read_word(mem, Superblock::EXTENTS_OFFSET + 8 + i * 16),
     }
 }
 
@@ -28,12 +25,12 @@ fn read(mem: &[u8], i: usize) -> ZeroExtent
 fn present(mem: &[u8], count: usize) -> usize
     ensures { λ r. ⌜ r ≡ imageCount count (now (mem .entry)) ⌝ }
 {
-    if mem.len() < RUNS_OFFSET {
+    if mem.len() < Superblock::EXTENTS_OFFSET {
         return 0;
     }
     runs::at_most(
-        runs::at_most(count, MAX_RUNS),
-        (mem.len() - RUNS_OFFSET) / 16,
+        runs::at_most(count, Superblock::MAX_ZERO_EXTENTS as usize),
+        (mem.len() - Superblock::EXTENTS_OFFSET) / 16,
     )
 }
 

@@ -12,6 +12,9 @@ ghost use Rattle.store.specs.Calls.{modeOf, buffersShort, short, commit};
 ghost use Rattle.store.specs.Store.{budgetOf, ended};
 ghost use Rattle.transfer.specs.OnMemory.{lent};
 
+// The runs of a work list for no frame: one more than an image can have.
+pub const WORK_RUNS: usize = Superblock::MAX_ZERO_EXTENTS as usize + 1;
+
 // A budget of which nothing is used yet.
 pub fn budget_of(limited: bool, max_pages: u64, max_bytes: u64) -> Budget
     ensures { λ r. ⌜ r ≡ budgetOf limited «max_pages» «max_bytes» ⌝ }
@@ -67,5 +70,5 @@ pub fn any_is_short(
     if are_short(s, frames, numbers, clean, record) {
         return true;
     }
-    work.len() / 2 < 1_025 + 2 * touch::frame_count(frames, numbers)
+    work.len() / 2 < WORK_RUNS + 2 * touch::frame_count(frames, numbers)
 }

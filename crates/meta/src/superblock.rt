@@ -239,7 +239,7 @@ impl Superblock {
     pub fn fresh() -> Superblock
         ensures { λ r. ⌜ r ≡ freshBlock ⌝ }
     {
-        let mut bytes = [0u8; 16544];
+        let mut bytes = [0u8; Superblock::ENCODED_LEN];
         let none = [0u64; 1];
         let block = Superblock {
             magic: Superblock::MAGIC,
@@ -271,7 +271,7 @@ impl Superblock {
     pub fn store(self, runs: &[u64], mem: &mut [u8]) -> Superblock
         ensures { λ r. ⌜ outcome r (now (mem .exit)) ≡ outcome (sealed self (now (runs .entry))) (storeIn self (now (runs .entry)) (now (mem .entry))) ⌝ }
     {
-        let mut bytes = [0u8; 16544];
+        let mut bytes = [0u8; Superblock::ENCODED_LEN];
         let block = self.seal(runs, &mut bytes);
         let n = block.encoded_len();
         memory::copy(mem, &bytes[..n]);

@@ -88,14 +88,6 @@ pub fn truncate(
             verdict: Verdict::Refused(Refusal::BufferTooShort),
         };
     }
-    truncation::resize(
-        buffers::settle(o),
-        image,
-        mem,
-        frames,
-        numbers,
-        clean,
-        record,
-        size,
-    )
+    let settled = buffers::settle(o);
+    truncation::resize(settled, image, mem, frames, numbers, clean, record, size)
 }

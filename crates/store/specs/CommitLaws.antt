@@ -217,3 +217,10 @@ module _ (P S C L M : ℕ) (k : Codec) (pos : 0 < P) (laws : Lawful S L M k) (u 
         let bo : i o ≡ cond (covers runs q) 0 (getD m (base + o) 0) = rw (imageByte, j) in
         rw (a, mm) (sym bo ∙ sym (sym s ∙ sw ∙ byte-clean P pos (v .dirty) o _ n ∙ rw x)))
         (λ j. clash (y .masked o (ltb-false o (b .«db_size») j) lt) (rw (n, x)))))
+
+    -- by the block and the memory that it leaves
+    pub commit-image : (o : ℕ) → o < length d → image P S C L M k (sealed k newBlock rs) after o ≡ getD d o 0
+    unfolding imageByte
+    commit-image o lt =
+        let inside : ltb o (newBlock .«db_size») ≡ true = lt-ltb o _ (omega (arith, lt, y .size-is, fields .size)) in
+        rw (inside, runs-now, fields .base) (commit-byte o lt)

@@ -1,12 +1,12 @@
 -- Laws of the calls that hold for any state and any bytes: 35 changes nothing, memory keeps its length, a refused commit and a refused direct call leave memory as
--- it was, an accepted commit leaves what CommitLaws speaks of, and a read is full where it is to be.
+-- it was and zeros in the buffers, an accepted commit leaves the file that its update showed, and a read is full where it is to be.
 use mathlib.Core.Path.{_≡_, refl, sym, ap, _∙_, subst}
 use Prim.Native.Nat.{ℕ, zero, suc, _+_, _-_, _*_, _/_, _≤_, _<_, max, min}
 use native.Mathlib.Omega.{arith}
 use mathlib.Core.Bool.{Bool, true, false, not, cond, _&&_, _||_, or-true}
 use mathlib.Core.List.{List, [], _∷_, _++_}
 use lib.Dec.{ltb, leb, eqb}
-use lib.ListN.{length, take, drop}
+use lib.ListN.{length, take, drop, getD}
 use borrow.Author.Tests.{eq-eqb, le-leb, lt-leb, ne-eqb, eqb-true, eqb-false}
 use Rattle.config.specs.Pages.{count}
 use Rattle.config.specs.declared.refusal.Refusal.{Refusal}
@@ -25,6 +25,7 @@ use Rattle.update.specs.ListLaws.{clash, tests}
 use Rattle.update.specs.Pages.{pageNumbers}
 use Rattle.update.specs.Update.{Over, fresh, Tried, accepted, refused, tryWrite, tryTruncate}
 use Rattle.update.specs.Buffers.{frameCount, entryCount, wiped, view}
+use Rattle.update.specs.Changes.{Like}
 use Rattle.update.specs.Refused.{Weak}
 use Rattle.store.specs.declared.State.{State}
 use Rattle.store.specs.declared.Answer.{Answer}
@@ -36,7 +37,7 @@ use Rattle.store.specs.Plan.{required}
 use Rattle.store.specs.Store.{budgetOf, refuse, ended, image, runsOf, over, publish, settle, unchanged, plannedRuns, commitOver, direct, change, doBegin, doRead, full, doCommit, doRollback, restore, doImportBegin, placeChunk, doImportChunk, doImportFinish, doImportCancel, doExport, doChecksum, doRefresh, refreshFrom, doRefreshStep, writePages, alone, act, swept, store}
 use Rattle.store.specs.Lawful.{Lawful, Good}
 use Rattle.store.specs.MemoryLaws.{Reaches, pages-length}
-use Rattle.store.specs.CommitLaws.{newBlock, flushed, after}
+use Rattle.store.specs.CommitLaws.{newBlock, flushed, after, commit-good, commit-image}
 use Rattle.store.specs.Cases.{by-test}
 
 grow-length : (S n end : ℕ) (m : List ℕ) → length (growTo S n end m .mem) ≡ length m
@@ -53,6 +54,13 @@ required-page P base [] end q h = clash h refl
 required-page P base (n ∷ ns) end q h = split (eqb q n)
     (λ t. rw (eqb-true q n t) (omega arith))
     (λ f. let r : base + (q + 1) * P ≤ required P base ns end = required-page P base ns end q (rw f at h) in omega arith)
+
+-- 01: "A commit refused by 31, 20 or 32 (in this order) ends the update with memory unchanged; its frames, page numbers, clean frames and record, whole,
+-- become zeros, as they do after any ended update or direct call."
+pub record Ends (l : Lent) (x : Out) : Type 0 where
+  pub over : x .state .updating ≡ false
+  pub zeroed : x .lent .bufs ≡ wiped (l .bufs)
+  pub kept : (number (x .answer) ≡ 0 → ⊥) → x .lent .mem ≡ l .mem
 
 module _ (P S C L M : ℕ) (k : Codec) where
   -- ## 35
@@ -77,9 +85,6 @@ module _ (P S C L M : ℕ) (k : Codec) where
   pub read-past : (size o n : ℕ) → (n ≡ 0 → ⊥) → size < o + n → full P S C L M k size o n ≡ false
   read-past size o n ne h = rw (ne-eqb n 0 ne, lt-leb (o + n) size h)
 
-  pub read-answers : (s : State) (l : Lent) (o n : ℕ) → doRead P S C L M k s l o n idle .answer ≡ Read (full P S C L M k (s .block .«db_size») o n)
-  read-answers s l o n = refl
-
   -- ## Commit
 
   module _ (u : Bool) (s : State) (l : Lent) (begun : ℕ) (w : Over) where
@@ -88,28 +93,47 @@ module _ (P S C L M : ℕ) (k : Codec) where
     unfolding commitOver
     commit-unchanged e = ap (λ (b : Bool). cond b (over P S C L M k s l Done) (settle P S C L M k u s l w (plannedRuns P S C L M k s (l .mem) w))) e
 
-    -- 31: memory as it was, the buffers wiped, the update over
-    pub commit-31 : settle P S C L M k u s l w tooMany ≡ out (ended P S C L M k (s .count .0) (s .block)) (record { mem = l .mem; bufs = wiped (l .bufs); work = l .work }) (Refused ZeroExtentLimitExceeded) []
-    commit-31 = refl
-
-    pub commit-32 : (rs : List ZeroExtent) (m : List ℕ) (r : Refusal) → publish P S C L M k u s l w rs m (NotGrown r) ≡ out (ended P S C L M k (s .count .0) (s .block)) (record { mem = l .mem; bufs = wiped (l .bufs); work = l .work }) (Refused r) []
-    commit-32 rs m r = refl
-
-  -- an accepted commit leaves the memory and the block of CommitLaws
+  -- an accepted commit: the bytes that the update showed are the image's, which is in order
   module _ (pos : 0 < P) (laws : Lawful S L M k) (u : Bool) (s : State) (l : Lent) (g : Good S L M k (s .count .0) (s .block) (l .mem)) (v : Over) (w : Weak P C M (image P S C L M k (s .block) (l .mem)) v) (rs : List ZeroExtent)
       (planned : plan P L (s .block .«db_size») (v .size) (runsOf P S C L M k (s .block) (l .mem)) (v .recorded) (pageNumbers (v .dirty)) ≡ kept rs)
       (range : required P (s .block .«db_base_offset») (below (count P (v .size)) (pageNumbers (v .dirty))) (s .block .«db_base_offset» + v .size) ≤ M)
       (r : ℕ) (grown : List ℕ)
       (reaches : Reaches S (s .count .0) (required P (s .block .«db_base_offset») (below (count P (v .size)) (pageNumbers (v .dirty))) (s .block .«db_base_offset» + v .size)) (l .mem) r grown) where
-    pub commit-accepted : publish P S C L M k u s l v rs grown (Grown (stable r)) ≡ out
-        (ended P S C L M k r (sealed k (newBlock P S C L M k pos laws u (s .count .0) (s .block) (l .mem) g v w rs planned range r grown reaches) rs))
-        (record { mem = after P S C L M k pos laws u (s .count .0) (s .block) (l .mem) g v w rs planned range r grown reaches; bufs = wiped (l .bufs); work = l .work }) Done []
-    unfolding newBlock flushed after
-    commit-accepted = refl
+    abbrev done : Out
+    done = publish P S C L M k u s l v rs grown (Grown (stable r))
 
-  -- a direct call that its update refuses leaves memory as it was
-  pub direct-refused : (s : State) (l : Lent) (r : Refusal) (w : Over) → direct P S C L M k s l (refused r w) .lent .mem ≡ l .mem
-  direct-refused s l r w = refl
+    pub commit-reads : (d : List ℕ) → Like P (image P S C L M k (s .block) (l .mem)) (s .block .«db_size») v (length d) d
+        → (o : ℕ) → o < length d → image P S C L M k (done .state .block) (done .lent .mem) o ≡ getD d o 0
+    unfolding newBlock flushed after
+    commit-reads d y o lt = commit-image P S C L M k pos laws u (s .count .0) (s .block) (l .mem) g v w rs planned range r grown reaches d y o lt
+
+    pub commit-in-order : Good S L M k (done .state .count .0) (done .state .block) (done .lent .mem)
+    unfolding newBlock flushed after
+    commit-in-order = commit-good P S C L M k pos laws u (s .count .0) (s .block) (l .mem) g v w rs planned range r grown reaches
+
+  -- ## The end of an update or of a direct call
+
+  publish-ends : (u : Bool) (s : State) (l : Lent) (w : Over) (rs : List ZeroExtent) (m : List ℕ) (g : Growth) → Ends l (publish P S C L M k u s l w rs m g)
+  publish-ends u s l w rs m (NotGrown r) = record { over = refl; zeroed = refl; kept = λ h. refl }
+  publish-ends u s l w rs m (Grown c) = record { over = refl; zeroed = refl; kept = λ h. absurd (h refl) }
+
+  settle-ends : (u : Bool) (s : State) (l : Lent) (w : Over) (x : Planned) → Ends l (settle P S C L M k u s l w x)
+  settle-ends u s l w tooMany = record { over = refl; zeroed = refl; kept = λ h. refl }
+  settle-ends u s l w (kept rs) =
+      let end : ℕ = required P (s .block .«db_base_offset») (below (count P (w .size)) (pageNumbers (w .dirty))) (s .block .«db_base_offset» + w .size) in
+      by-test (Ends l) (ltb M end) _ _ (λ t. record { over = refl; zeroed = refl; kept = λ h. refl })
+      (λ f. publish-ends u s l w rs (growTo S (s .count .0) end (l .mem) .mem) (growTo S (s .count .0) end (l .mem) .growth))
+
+  -- any commit of an update or of a direct call, accepted or not
+  pub commit-ends : (u : Bool) (s : State) (l : Lent) (begun : ℕ) (w : Over) → Ends l (commitOver P S C L M k u s l begun w)
+  unfolding commitOver
+  commit-ends u s l begun w = by-test (Ends l) (unchanged P S C L M k begun w) _ _ (λ t. record { over = refl; zeroed = refl; kept = λ h. refl })
+      (λ f. settle-ends u s l w (plannedRuns P S C L M k s (l .mem) w))
+
+  -- and a direct call that is refused before its commit
+  pub direct-ends : (s : State) (l : Lent) (t : Tried) → Ends l (direct P S C L M k s l t)
+  direct-ends s l (accepted w) = commit-ends false s l (s .block .«db_size») w
+  direct-ends s l (refused r w) = record { over = refl; zeroed = refl; kept = λ h. refl }
 
   -- ## Memory keeps its length
 

@@ -1,6 +1,7 @@
 // Export, the checksum, and its refresh.
 use crate::step;
 use config::Refusal;
+use meta::FNV_OFFSET_BASIS;
 use meta::Superblock;
 use store::Answer;
 use store::ChecksumRefresh;
@@ -14,8 +15,6 @@ ghost use Rattle.store.specs.Store.{imageSum};
 ghost use Rattle.store.specs.Codec.{realCodec};
 ghost use Rattle.transfer.specs.OnMemory.{OnMemory};
 ghost use Rattle.transfer.specs.Steps.{stepOut, refreshTo, refreshStepTo};
-
-const NOTHING_HASHED: u64 = 0xcbf2_9ce4_8422_2325;
 
 // How many of `n` bytes from `offset` on lie below `size`.
 fn below_size(n: usize, size: u64, offset: u64) -> usize
@@ -54,7 +53,7 @@ fn sum_of(mem: &[u8], block: Superblock) -> u64
     ensures { λ r. ⌜ r ≡ imageSum 16384 65536 8 1024 18446744073709551615 realCodec block (now (mem .entry)) ⌝ }
 {
     image::fold(
-        NOTHING_HASHED,
+        FNV_OFFSET_BASIS,
         mem,
         image::image_of(block),
         0,
@@ -146,7 +145,7 @@ fn refresh_step(s: State, mem: &mut [u8], block: Superblock, n: u64) -> Step
     ensures { λ r. ⌜ stepOut r (now (mem .exit)) ≡ refreshStepTo s (now (mem .entry)) block n ⌝ }
 {
     if !blocks::is_refreshing(block) {
-        return refresh_from(s, mem, block, n, 0, NOTHING_HASHED);
+        return refresh_from(s, mem, block, n, 0, FNV_OFFSET_BASIS);
     }
     if block.checksum_refresh_tx_id != block.last_tx_id {
         return refresh_step(s, mem, blocks::without_refresh(block), n);

@@ -7,7 +7,7 @@ use mathlib.Core.List.{List, [], _++_}
 use lib.ListN.{length, getD, take, drop, length-take}
 use lib.Seq.{length-take-le}
 use Rattle.memory.specs.Bytes.{zeros, resize}
-use Rattle.memory.specs.Laws.{length-resize, resize-alike, take-resize}
+use Rattle.memory.specs.Laws.{length-zeros, zeros-at, length-resize, resize-alike, take-resize}
 use Rattle.meta.specs.declared.ZeroExtent.{ZeroExtent}
 use Rattle.meta.specs.Runs.{runsOf, numbersOf}
 use Rattle.runs.specs.Flat.{runsIn}
@@ -168,19 +168,13 @@ module _ (P C : ℕ) where
         unused = λ i h k. refill-past (n * P) (flat (w .dirty)) (l .frames) i (omega arith) k;
       }
 
--- after the end of an update: lengths stay, and all is zeros
-pub wiped-frames : (l : Buffers) → wiped l .frames ≡ zeros (length (l .frames))
-unfolding wiped
-wiped-frames l = refl
+-- 01: "its frames, page numbers, clean frames and record, whole, become zeros": each is as long as it was, and every element is 0
+abbrev Blank : List ℕ → List ℕ → Type 0
+Blank was now = (length now ≡ length was) × ((i : ℕ) → getD now i 0 ≡ 0)
 
-pub wiped-numbers : (l : Buffers) → wiped l .numbers ≡ zeros (length (l .numbers))
+pub wiped-blank : (l : Buffers) → Blank (l .frames) (wiped l .frames) × Blank (l .numbers) (wiped l .numbers) × Blank (l .clean) (wiped l .clean) × Blank (l .recs) (wiped l .recs)
 unfolding wiped
-wiped-numbers l = refl
-
-pub wiped-clean : (l : Buffers) → wiped l .clean ≡ zeros (length (l .clean))
-unfolding wiped
-wiped-clean l = refl
-
-pub wiped-recs : (l : Buffers) → wiped l .recs ≡ zeros (length (l .recs))
-unfolding wiped
-wiped-recs l = refl
+wiped-blank l = (blank (l .frames), blank (l .numbers), blank (l .clean), blank (l .recs))
+  where
+    blank : (xs : List ℕ) → Blank xs (zeros (length xs))
+    blank xs = (length-zeros (length xs), zeros-at (length xs))

@@ -153,12 +153,12 @@ pub extern "C" fn yuharopu_plan(
         return BUFFER_TOO_SHORT;
     }
     let image = extents.len() / 2;
-    if 1_024 < image {
+    if (Superblock::MAX_ZERO_EXTENTS as usize) < image {
         return BUFFER_TOO_SHORT;
     }
     let pages = dirty.len();
     let entries = record.len() / 2;
-    if work.len() < (1_025 + pages * 2) * 2 {
+    if work.len() < (lending::WORK_RUNS + pages * 2) * 2 {
         return BUFFER_TOO_SHORT;
     }
     match extents::plan_numbers(
