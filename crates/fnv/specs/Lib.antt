@@ -1,1 +1,4 @@
 pub mod Fnv
+pub mod Products
+pub mod Parts
+pub mod Zeros

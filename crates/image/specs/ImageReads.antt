@@ -11,6 +11,7 @@ use borrow.Author.Tests.{le-ltb}
 use Rattle.memory.specs.Bytes.{zeros, overwrite}
 use Rattle.memory.specs.Laws.{length-zeros, zeros-at, length-overwrite, overwrite-join, overwrite-all, overwrite-mid, overwrite-more, take-overwrite, part-back, part-filled}
 use Rattle.fnv.specs.Fnv.{fold, fold-join, fold-nil}
+use Rattle.fnv.specs.Zeros.{foldZeros, foldZeros-is}
 use Rattle.meta.specs.Runs.{numbersOf}
 use Rattle.words.specs.Words.{wordAt, wordAt-drop, wordsIn-at}
 use Rattle.runs.specs.FlatLaws.{numbers-runs}
@@ -84,16 +85,23 @@ module _ (P : ℕ) (pos : 0 < P) (i : Image) (mem : List ℕ) where
       ∙ sym (tabulate-join o n (length d - n) byte) ∙ ap (λ (x : ℕ). tabulateFrom o x byte) s
 
   -- the checksum taken on over a part of a page
-  pub fold-more : (at end k n sum : ℕ) (new : List ℕ) → k ≡ n → at + n ≤ end → at % P + n ≤ P → new ≡ imagePart P i mem at k
-      → fold (fold sum new) (tabulateFrom (at + n) (end - (at + n)) byte) ≡ fold sum (tabulateFrom at (end - at) byte)
-  fold-more at end k n sum new l h g e =
+  pub fold-more : (at end k n sum next : ℕ) → k ≡ n → at + n ≤ end → at % P + n ≤ P → next ≡ fold sum (imagePart P i mem at k)
+      → fold next (tabulateFrom (at + n) (end - (at + n)) byte) ≡ fold sum (tabulateFrom at (end - at) byte)
+  fold-more at end k n sum next l h g e =
+      let rest : List ℕ = tabulateFrom (at + n) (end - (at + n)) byte in
       let s : n + (end - (at + n)) ≡ end - at = omega arith in
-      fold-join sum new (tabulateFrom (at + n) (end - (at + n)) byte)
-      ∙ ap (λ (x : List ℕ). fold sum (x ++ tabulateFrom (at + n) (end - (at + n)) byte)) (e ∙ ap (imagePart P i mem at) l ∙ part-is P pos i mem at n g)
+      ap (λ (x : ℕ). fold x rest) e ∙ fold-join sum (imagePart P i mem at k) rest
+      ∙ ap (λ (x : List ℕ). fold sum (x ++ rest)) (ap (imagePart P i mem at) l ∙ part-is P pos i mem at n g)
       ∙ ap (fold sum) (sym (tabulate-join at n (end - (at + n)) byte) ∙ ap (λ (x : ℕ). tabulateFrom at x byte) s)
 
   pub fold-last : (at end sum : ℕ) → end ≤ at → fold sum (tabulateFrom at (end - at) byte) ≡ sum
   fold-last at end sum h = let z : end - at ≡ 0 = omega arith in rw z (fold-nil sum)
+
+-- ## Zeros
+
+pub fold-zeros : (n h : ℕ) → foldZeros n h ≡ fold h (zeros n)
+unfolding zeros
+fold-zeros n h = foldZeros-is n h
 
 -- ## Runs by number
 

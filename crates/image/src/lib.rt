@@ -5,11 +5,13 @@ use update::Image;
 ghost use mathlib.Core.Path.{_≡_};
 ghost use Prim.Native.Nat.{_+_, _-_, _*_, _≤_, min};
 ghost use lib.ListN.{length, take};
+ghost use Rattle.memory.specs.Bytes.{zeros};
 ghost use Rattle.fnv.specs.Fnv.{fold};
 ghost use Rattle.meta.specs.Stored.{outcome};
 ghost use Rattle.image_runs.specs.Image.{imageCount, imageNumbers};
 ghost use Rattle.update.specs.Lists.{tabulateFrom};
-ghost use Rattle.update.specs.Image.{imageIn};
+ghost use Rattle.update.specs.Image.{imageIn, imagePart};
+ghost use Rattle.pool.specs.Stored.{stored};
 ghost use Rattle.image.specs.Reading.{imageOf, resealed, restored};
 
 pub fn image_of(b: Superblock) -> Image
@@ -54,7 +56,38 @@ pub fn read(dst: &mut [u8], mem: &[u8], image: Image, offset: u64)
     memory::fill(&mut dst[n..]);
 }
 
-// The checksum `hash`, taken on over the image's bytes `from .. end`, page by page.
+// The checksum `hash`, taken on over as many zeros as `page` has bytes: a whole page of them is one multiplication. `page` is room for bytes, here and below.
+fn fold_zeros(hash: u64, page: &mut [u8]) -> u64
+    ensures { λ r. ⌜ r ≡ fold hash (zeros (length (now (page .entry)))) ⌝ }
+{
+    if page.len() == PAGE_LEN {
+        return fnv::fold_zero_page(hash);
+    }
+    memory::fill(page);
+    meta::fold_fnv1a64(hash, page)
+}
+
+// Taken on over the image's bytes from `at` on, as memory holds them.
+fn fold_stored(hash: u64, page: &mut [u8], mem: &[u8], image: Image, at: u64) -> u64
+    ensures { λ r. ⌜ r ≡ fold hash (stored image (now (mem .entry)) at (length (now (page .entry)))) ⌝ }
+{
+    pool::read_stored(page, mem, image, at);
+    meta::fold_fnv1a64(hash, page)
+}
+
+// Taken on over the image's bytes from `at` on, as those of the page that `at` lies in.
+fn fold_part(hash: u64, page: &mut [u8], mem: &[u8], image: Image, at: u64) -> u64
+    ensures { λ r. ⌜ r ≡ fold hash (imagePart 16384 image (now (mem .entry)) at (length (now (page .entry)))) ⌝ }
+{
+    let number = config::page_no(at);
+    let runs = image.runs;
+    if image_runs::image_covers(mem, runs, number.0) {
+        return fold_zeros(hash, page);
+    }
+    fold_stored(hash, page, mem, image, at)
+}
+
+// Taken on over the image's bytes `from .. end`, page by page.
 pub fn fold(hash: u64, mem: &[u8], image: Image, from: u64, end: u64) -> u64
     ensures { λ r. ⌜ r ≡ fold hash (tabulateFrom from (end - from) (imageIn 16384 image (now (mem .entry)))) ⌝ }
 {
@@ -64,8 +97,7 @@ pub fn fold(hash: u64, mem: &[u8], image: Image, from: u64, end: u64) -> u64
     while at < end {
         let within = config::page_offset(at);
         let n = part(PAGE_LEN - within, end - at);
-        pool::read_image(&mut page[..n], mem, image, at);
-        sum = meta::fold_fnv1a64(sum, &page[..n]);
+        sum = fold_part(sum, &mut page[..n], mem, image, at);
         at += n as u64;
     }
     sum

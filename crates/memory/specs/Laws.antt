@@ -8,7 +8,7 @@ use native.Mathlib.Omega.{arith}
 use lib.Dec.{ltb}
 use native.Mathlib.Numerals.{add-one}
 use lib.ListN.{length, take, drop, getD, set, replicate, length-append, length-take, length-drop, length-replicate, drop-of-length-le, List·getD-eq-default, List·getD-append}
-use lib.Seq.{take-suc, set-split, take-all, take-take, take-append-seam, drop-length, drop-drop, getD-take, getD-drop, getD-append-add, ext-getD, take-nil}
+use lib.Seq.{take-add, take-suc, set-split, take-all, take-take, take-append-seam, drop-length, drop-drop, getD-take, getD-drop, getD-append-add, ext-getD, take-nil}
 use borrow.Author.Tests.{ltb-true, ltb-false}
 use borrow.Rule.Slice.PartMut.{putMid}
 use Rattle.memory.specs.Bytes.{zeros, overwrite, resize}
@@ -252,6 +252,19 @@ length-part at k xs h = length-take k (drop at xs) ∙ omega (arith, length-drop
 -- a part that was lent to be filled
 pub part-filled : (at k : ℕ) (xs : List ℕ) → at + k ≤ length xs → putMid at k xs (zeros (length (take k (drop at xs)))) ≡ overwrite at (zeros k) xs
 part-filled at k xs h = rw (length-part at k xs h) (part-back at k xs (zeros k) (length-zeros k) h)
+
+-- the next part of src copied behind what was copied of it
+pub part-copied : (at k : ℕ) (src xs : List ℕ) → at + k ≤ length src → at + k ≤ length xs
+    → putMid at k (overwrite 0 (take at src) xs) (overwrite 0 (take k (drop at src)) (take k (drop at (overwrite 0 (take at src) xs)))) ≡ overwrite 0 (take (at + k) src) xs
+part-copied at k src xs h l =
+    let d : List ℕ = overwrite 0 (take at src) xs in
+    let p : List ℕ = take k (drop at src) in
+    let lp : length p ≡ k = length-part at k src h in
+    let ld : at + k ≤ length d = omega (arith, length-overwrite 0 (take at src) xs) in
+    let lt : 0 + length (take at src) ≡ at = omega (arith, length-take at src) in
+    (rw (overwrite-all p (take k (drop at d)) (lp ∙ sym (length-part at k d ld))) (part-back at k d p lp ld))
+    ∙ (rw lt at (overwrite-join 0 (take at src) p xs))
+    ∙ ap (λ (y : List ℕ). overwrite 0 y xs) (sym (take-add at k src))
 
 -- a list copied over the front of xs, and the rest of xs lent to be filled
 pub part-padded : (new xs : List ℕ) → length new ≤ length xs

@@ -1,6 +1,6 @@
 // Filling and copying, on any places of any slice: what lies past the end of a slice is left out.
 ghost use mathlib.Core.Path.{_≡_};
-ghost use Prim.Native.Nat.{min};
+ghost use Prim.Native.Nat.{_≤_, min};
 ghost use lib.ListN.{length, drop};
 ghost use Rattle.memory.specs.Bytes.{zeros, overwrite, resize};
 
@@ -33,12 +33,32 @@ pub fn fill_at(dst: &mut [u8], at: usize, n: usize)
     fill(&mut dst[at..end]);
 }
 
-// `src` over the first bytes of `dst`.
+// What moves at once: a page is one move.
+const PART: usize = 16_384;
+
+// All of `src` over the first bytes of `dst`. By way of an array, which overlaps neither slice: of the two loops the compiler makes one `memmove`, and of a
+// loop from slice to slice moves of 16 bytes.
+fn copy_part(dst: &mut [u8], src: &[u8])
+    requires { ⌜ (length (now src) ≤ length (now dst)) × (length (now src) ≤ 16384) ⌝ }
+    ensures { λ _. ⌜ now (dst .exit) ≡ overwrite 0 (now (src .entry)) (now (dst .entry)) ⌝ }
+{
+    let n = src.len();
+    let mut part = [0u8; 16_384];
+    bytes::copy(src, &mut part);
+    bytes::copy(&part[..n], dst);
+}
+
+// `src` over the first bytes of `dst`, part by part.
 pub fn copy(dst: &mut [u8], src: &[u8])
     ensures { λ _. ⌜ now (dst .exit) ≡ overwrite 0 (now (src .entry)) (now (dst .entry)) ⌝ }
 {
     let n = least(dst.len(), src.len());
-    bytes::copy(&src[..n], dst);
+    let mut done = 0;
+    while done < n {
+        let end = done + least(PART, n - done);
+        copy_part(&mut dst[done..end], &src[done..end]);
+        done = end;
+    }
 }
 
 // `src` over the bytes of `dst` from `at` on.

@@ -1,5 +1,6 @@
 pub mod Pool
 pub mod Cache
+pub mod Stored
 pub mod CacheLaws
 pub mod PoolLaws
 pub mod WalkLaws

@@ -4,6 +4,7 @@ ghost use mathlib.Core.Path.{_≡_};
 ghost use Prim.Native.Nat.{_+_, min};
 ghost use lib.ListN.{length};
 ghost use Rattle.update.specs.Image.{imagePart};
+ghost use Rattle.pool.specs.Stored.{stored};
 
 // a + b, or `most` where that is less: no sum wraps.
 fn reach(a: u64, b: u64, most: usize) -> usize
@@ -19,8 +20,16 @@ fn reach(a: u64, b: u64, most: usize) -> usize
     (a + b) as usize
 }
 
-// The image's bytes from `offset` on become all of `dst`, as those of the page that `offset` lies in: zeros if an image run covers it, else the bytes at
-// base + offset; past the size, and past the end of memory, zeros.
+// The image's bytes from `offset` on, as memory holds them at base + offset, become all of `dst`: past the size, and past the end of memory, zeros.
+pub fn read_stored(dst: &mut [u8], mem: &[u8], image: Image, offset: u64)
+    ensures { λ _. ⌜ now (dst .exit) ≡ stored image (now (mem .entry)) offset (length (now (dst .entry))) ⌝ }
+{
+    let end = reach(image.base, image.size, mem.len());
+    let from = reach(image.base, offset, end);
+    memory::read(dst, &mem[..end], from);
+}
+
+// The image's bytes from `offset` on become all of `dst`, as those of the page that `offset` lies in: zeros if an image run covers it, else what is stored.
 pub fn read_image(dst: &mut [u8], mem: &[u8], image: Image, offset: u64)
     ensures { λ _. ⌜ now (dst .exit) ≡ imagePart 16384 image (now (mem .entry)) offset (length (now (dst .entry))) ⌝ }
 {
@@ -30,7 +39,5 @@ pub fn read_image(dst: &mut [u8], mem: &[u8], image: Image, offset: u64)
         memory::fill(dst);
         return;
     }
-    let end = reach(image.base, image.size, mem.len());
-    let from = reach(image.base, offset, end);
-    memory::read(dst, &mem[..end], from);
+    read_stored(dst, mem, image, offset);
 }

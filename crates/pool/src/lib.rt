@@ -9,6 +9,7 @@ pub use cache::load;
 pub use cache::retain_clean;
 pub use cache::settle;
 pub use image::read_image;
+pub use image::read_stored;
 pub use pages::find;
 pub use pages::retain;
 pub use record::Pushed;

@@ -1,19 +1,49 @@
 // A pool of pages: frames of 16,384 bytes, one behind the other, and a list of their page numbers.
 use config::PAGE_LEN;
 ghost use mathlib.Core.Path.{_≡_};
-ghost use Prim.Native.Nat.{_+_, _*_, _≤_, _<_};
+ghost use mathlib.Core.Bool.{false};
+ghost use Prim.Native.Nat.{_+_, _*_, _≤_, _<_, min};
 ghost use lib.ListN.{length, take, drop};
 ghost use Rattle.memory.specs.Bytes.{overwrite};
 ghost use Rattle.update.specs.Pages.{pagesIn, placeOf};
 ghost use Rattle.update.specs.Frames.{pool, relaid, retained};
 ghost use Rattle.pool.specs.Pool.{stays, keptOne, walked};
 
-// The place of `page` among the first `count` numbers, or how many they are where it is not one of them.
-pub fn find(numbers: &[u64], count: usize, page: u64) -> usize
-    ensures { λ r. ⌜ r ≡ placeOf (take count (now (numbers .entry))) page ⌝ }
+// How many numbers are compared at once.
+const BLOCK: usize = 8;
+
+// Whether the page was found before, or is this number.
+fn is_found(found: bool, number: u64, page: u64) -> bool
+    ensures { λ r. ⌜ (r ≡ false → (found ≡ false) × (number ≡ page → ⊥)) ⌝ }
+{
+    if number == page {
+        return true;
+    }
+    found
+}
+
+// Whether the page is one of the block's numbers, from `i` on. The loop has no way out, so that the compiler compares several at once.
+fn is_in_block(numbers: &[u64], count: usize, i: usize, page: u64) -> bool
+    requires { ⌜ i + 8 ≤ min count (length (now numbers)) ⌝ }
+    ensures { λ r. ⌜ (r ≡ false → i + placeOf (drop i (take count (now (numbers .entry)))) page ≡ i + 8 + placeOf (drop (i + 8) (take count (now (numbers .entry)))) page) ⌝ }
+{
+    let end = i + BLOCK;
+    let mut k = i;
+    let mut found = false;
+    while k < end {
+        found = is_found(found, numbers[k], page);
+        k += 1;
+    }
+    found
+}
+
+// As `find`, of a page that is not one of the numbers before `start`: one by one.
+fn find_from(numbers: &[u64], count: usize, start: usize, page: u64) -> usize
+    requires { ⌜ start ≤ min count (length (now numbers)) ⌝ }
+    ensures { λ r. ⌜ r ≡ start + placeOf (drop start (take count (now (numbers .entry)))) page ⌝ }
 {
     let n = memory::least(count, numbers.len());
-    let mut i = 0;
+    let mut i = start;
     while i < n {
         if numbers[i] == page {
             return i;
@@ -21,6 +51,22 @@ pub fn find(numbers: &[u64], count: usize, page: u64) -> usize
         i += 1;
     }
     n
+}
+
+// The place of `page` among the first `count` numbers, or how many they are where it is not one of them: block by block,
+// and one by one in the block that has it or at the end.
+pub fn find(numbers: &[u64], count: usize, page: u64) -> usize
+    ensures { λ r. ⌜ r ≡ placeOf (take count (now (numbers .entry))) page ⌝ }
+{
+    let have = memory::least(count, numbers.len());
+    let mut i = 0;
+    while BLOCK <= have - i {
+        if is_in_block(numbers, count, i, page) {
+            return find_from(numbers, count, i, page);
+        }
+        i += BLOCK;
+    }
+    find_from(numbers, count, i, page)
 }
 
 // `n` bytes from `from` on move down to `to`.

@@ -4,11 +4,12 @@
 use conformance::prng::{mix, Prng};
 use conformance::store::choose::Chooser;
 use conformance::store::{Act, Buffers, Call, Made, Outcome, Room, Run};
-use yuharopu::{Budget, Error, Store};
+use yuharopu::{Aligned, Budget, Error, Store};
 
 const LISTS: u64 = 400;
 const CALLS: u64 = 120;
 const STABLE_PAGE: usize = 65_536;
+const LINE: usize = 64;
 
 fn refused(error: Error) -> Outcome {
     let values = match error {
@@ -116,4 +117,16 @@ fn any_list_of_calls() {
         }
     }
     assert!(calls > 20_000 && full > 500, "{calls} calls, {full} by 33");
+}
+
+#[test]
+fn buffers_are_aligned() {
+    for len in (0..200).chain([16_384, 131_072, 1 << 20]) {
+        let mut bytes = Aligned::zeros(len);
+        assert_eq!(bytes.as_ptr().align_offset(LINE), 0, "{len} bytes");
+        assert!(bytes.len() == len && bytes.iter().all(|byte| *byte == 0));
+        bytes.fill(7);
+    }
+    let store = Store::builder().create().expect("a fresh image");
+    assert_eq!(store.memory().as_ptr().align_offset(LINE), 0);
 }

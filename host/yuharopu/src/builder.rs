@@ -1,6 +1,6 @@
 //! How much a store is lent.
 
-use crate::{Error, Store, CLEAN_BYTES, PAGE_BYTES, STABLE_PAGE_BYTES, STATE_BYTES};
+use crate::{Aligned, Error, Store, CLEAN_BYTES, PAGE_BYTES, STABLE_PAGE_BYTES, STATE_BYTES};
 
 /// The buffers of a store, in numbers; they do not grow later.
 #[derive(Clone, Copy, Debug)]
@@ -49,14 +49,14 @@ impl Builder {
     /// least what they take.
     pub fn open(self, image: &[u8]) -> Result<Store, Error> {
         let count = image.len().div_ceil(STABLE_PAGE_BYTES);
-        let mut mem = vec![0; count.max(self.ceiling) * STABLE_PAGE_BYTES];
+        let mut mem = Aligned::zeros(count.max(self.ceiling) * STABLE_PAGE_BYTES);
         mem[..image.len()].copy_from_slice(image);
         let mut store = Store {
             state: [0; STATE_BYTES],
             mem,
-            frames: vec![0; self.frames * PAGE_BYTES],
+            frames: Aligned::zeros(self.frames * PAGE_BYTES),
             numbers: vec![0; self.frames],
-            clean: vec![0; CLEAN_BYTES],
+            clean: Aligned::zeros(CLEAN_BYTES),
             record: vec![0; 2 * self.record_entries],
             work: vec![0; crate::work_numbers(self.frames)],
         };

@@ -24,11 +24,13 @@
 //! # Ok::<(), Error>(())
 //! ```
 
+mod aligned;
 mod builder;
 mod error;
 mod ffi;
 mod store;
 
+pub use aligned::Aligned;
 pub use builder::Builder;
 pub use error::Error;
 pub use ffi::calls as raw;

@@ -2,7 +2,8 @@
 
 use crate::ffi::calls::{self, Lent};
 use crate::{
-    work_numbers, Builder, Error, ANSWER_NUMBERS, PAGE_BYTES, STABLE_PAGE_BYTES, STATE_BYTES,
+    work_numbers, Aligned, Builder, Error, ANSWER_NUMBERS, PAGE_BYTES, STABLE_PAGE_BYTES,
+    STATE_BYTES,
 };
 
 /// The places of the state's numbers that are read here.
@@ -31,10 +32,10 @@ pub struct ChecksumRefresh {
 /// An open image. It asks for no memory after its opening.
 pub struct Store {
     pub(crate) state: [u8; STATE_BYTES],
-    pub(crate) mem: Vec<u8>,
-    pub(crate) frames: Vec<u8>,
+    pub(crate) mem: Aligned,
+    pub(crate) frames: Aligned,
     pub(crate) numbers: Vec<u64>,
-    pub(crate) clean: Vec<u8>,
+    pub(crate) clean: Aligned,
     pub(crate) record: Vec<u64>,
     pub(crate) work: Vec<u64>,
 }

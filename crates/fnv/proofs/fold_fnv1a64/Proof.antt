@@ -1,48 +1,53 @@
--- `fnv::fold_fnv1a64` meets its contract: what is left, taken on from the present hash, is the whole.
-use mathlib.Core.Path.{_≡_, refl, sym, _∙_}
-use mathlib.Core.List.{_∷_}
-use Prim.Native.Nat.{_+_, _-_, _≤_, _<_}
-use native.Mathlib.Numerals.{add-one}
-use lib.ListN.{length, drop, getD, drop-of-length-le}
-use lib.Seq.{drop-cons}
+-- `fnv::fold_fnv1a64` meets its contract: before each turn the hash is that of the first `i` bytes.
+use mathlib.Core.Path.{_≡_, sym, ap, _∙_}
+use Prim.Native.Nat.{ℕ, _+_, _-_, _≤_}
+use native.Mathlib.Omega.{arith}
+use lib.ListN.{length, take, drop}
 use borrow.Author.Needs.{needs}
-use Rattle.fnv.specs.Fnv.{fold, fold-nil, fold-cons}
+use Rattle.fnv.specs.Fnv.{fold, fold-nil}
+use Rattle.fnv.specs.Parts.{fold-on, fold-rest}
 use Rattle.fnv.proofs.fold_fnv1a64.Statement.{statement}
 use Rattle.fnv.proofs.fold_fnv1a64.Tie as tie
 
 abbrev Inv-loop : tie.InvT-loop
-Inv-loop hash bytes out₀ i₀ out i = (i ≤ length bytes) × (fold out (drop i bytes) ≡ fold hash bytes)
+Inv-loop hash bytes sum₀ i₀ sum i = (i ≤ length bytes) × (sum ≡ fold hash (take i bytes))
 
 abbrev μ-loop : tie.MeasureT-loop
-μ-loop hash bytes out₀ i₀ out i = length bytes - i
+μ-loop hash bytes sum₀ i₀ sum i = length bytes - i
 
 loop-holds : tie.Need-loop-holds Inv-loop μ-loop
-loop-holds c = (search needs, refl)
+loop-holds c = (search needs, sym (fold-nil _))
 
-shared-slice-read-step : tie.Need-shared-slice-read-step Inv-loop μ-loop
-shared-slice-read-step c = search needs
+sub-loop : tie.Need-sub-loop Inv-loop μ-loop
+sub-loop c = search needs
 
-step-requires : tie.Need-step-requires Inv-loop μ-loop
-step-requires c κs = search needs
+fold-eight-requires : tie.Need-fold-eight-requires Inv-loop μ-loop
+fold-eight-requires c κs = omega arith
 
 add-i : tie.Need-add-i Inv-loop μ-loop
 add-i c = search needs
 
 loop-less : tie.Need-loop-less Inv-loop μ-loop
-loop-less c = search needs
+loop-less c = omega arith
 
 loop-again : tie.Need-loop-again Inv-loop μ-loop
-loop-again c = let at = c .before .before .before in
-    let s = at .before .before .args .bytes .now in
-    let h : at .loop .i < length s = c .before .before .loop-test .taken in
-    let e : drop (at .loop .i) s ≡ getD s (at .loop .i) 0 ∷ drop (at .loop .i + 1) s = rw (add-one, drop-cons s (at .loop .i) 0) in
-    (search needs, rw (c .step .ensures, ← (fold-cons (at .loop .out) (getD s (at .loop .i) 0) (drop (at .loop .i + 1) s)), ← e) (at .loop .inv .1))
+loop-again c =
+    let x = c .before .before .loop in
+    let a = c .before .before .before .before .args in
+    (omega arith, c .fold-eight .ensures ∙ ap (λ (h : ℕ). fold h (take 8 (drop (x .i) (a .bytes .now)))) (x .inv .1) ∙ fold-on (a .hash) (a .bytes .now) (x .i) 8)
+
+sub-fold-part : tie.Need-sub-fold-part Inv-loop μ-loop
+sub-fold-part c = search needs
+
+fold-part-requires : tie.Need-fold-part-requires Inv-loop μ-loop
+fold-part-requires c κs = omega arith
 
 returns : tie.Need-returns Inv-loop μ-loop
-returns c = let at = c .before in
-    let s = at .before .before .args .bytes .now in
-    let e : fold (at .loop .out) (drop (at .loop .i) s) ≡ at .loop .out = rw (drop-of-length-le s (c .loop-test .left)) (fold-nil (at .loop .out)) in
-    sym e ∙ at .loop .inv .1
+returns c =
+    let x = c .before .before .loop in
+    let a = c .before .before .before .before .args in
+    let l = a .bytes .now in
+    c .fold-part .ensures ∙ ap (λ (h : ℕ). fold h (take (length l - x .i) (drop (x .i) l))) (x .inv .1) ∙ fold-rest (a .hash) l (x .i) (x .inv .0)
 
 pub fold-fnv1a64-spec : {M : Type 1} → statement M
 fold-fnv1a64-spec =
@@ -51,9 +56,11 @@ fold-fnv1a64-spec =
     Inv-loop
     μ-loop
     loop-holds
-    shared-slice-read-step
-    step-requires
+    sub-loop
+    fold-eight-requires
     add-i
     loop-less
     loop-again
+    sub-fold-part
+    fold-part-requires
     returns)

@@ -9,6 +9,13 @@ const PAGES: u64 = 2_048;
 /// Pages made dirty, frames lent, updates a round. The last lends more than the update needs: all of it becomes zeros.
 const UPDATES: [(u64, usize, u32); 4] = [(1, 1, 32), (64, 64, 2), (1_024, 1_024, 1), (1, 1_024, 4)];
 
+/// Truncations to whole pages, each of which records a run and makes no page dirty.
+const TRUNCATIONS: u64 = 1_024;
+/// The pages that the file grows by, at most.
+const GROWN: u64 = 104;
+/// One less than an image may have: the grown pages are one more.
+const RECORDED_RUNS: [u64; 2] = [0, 1_023];
+
 pub fn report() {
     for (dirty, frames, updates) in UPDATES {
         for runs in RUNS {
@@ -25,6 +32,7 @@ pub fn report() {
             );
         }
     }
+    RECORDED_RUNS.into_iter().for_each(recorded);
     // a `Store` lends what a call can need
     for (dirty, frames, updates) in UPDATES.into_iter().skip(2) {
         for runs in RUNS {
@@ -41,6 +49,32 @@ pub fn report() {
             );
         }
     }
+}
+
+/// The size after a truncation: never that before it.
+fn size(at: u64) -> u64 {
+    (PAGES + 1 + at * 37 % (GROWN - 3)) * PAGE
+}
+
+fn recorded(runs: u64) {
+    let spare = (GROWN * PAGE) as usize;
+    let mut pair = Pair::recording(PAGES, runs, TRUNCATIONS as usize, spare);
+    let round = |side: &mut dyn Side| {
+        let mut commit = Duration::ZERO;
+        let all = time(|| {
+            side.begin();
+            (0..TRUNCATIONS).for_each(|at| side.truncate(size(at)));
+            commit = time(|| side.commit());
+        });
+        [all, commit]
+    };
+    let [all, commit] = measure(&mut pair, 1, round);
+    pair.is_same();
+    let frames = 0;
+    let name = "update of 1,024 truncations with its commit";
+    all.print(&Row { name, runs, frames });
+    let name = "its commit alone, 1,024 recorded runs";
+    commit.print(&Row { name, runs, frames });
 }
 
 struct Shape {

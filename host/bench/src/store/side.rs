@@ -5,7 +5,7 @@ use oracle::Store;
 use std::rc::Rc;
 use yuharopu::raw::{self, Lent};
 use yuharopu::{
-    work_numbers, ANSWER_NUMBERS, CLEAN_BYTES, PAGE_BYTES, STABLE_PAGE_BYTES, STATE_BYTES,
+    work_numbers, Aligned, ANSWER_NUMBERS, CLEAN_BYTES, PAGE_BYTES, STABLE_PAGE_BYTES, STATE_BYTES,
 };
 
 const RECORD_ENTRIES: usize = 16;
@@ -15,6 +15,7 @@ pub trait Side {
     fn begin(&mut self);
     fn read(&mut self, offset: u64, dst: &mut [u8]);
     fn write(&mut self, offset: u64, bytes: &[u8]);
+    fn truncate(&mut self, size: u64);
     fn commit(&mut self);
     fn rollback(&mut self);
     fn checksum(&mut self) -> u64;
@@ -45,18 +46,18 @@ pub struct Library {
     opened: [u8; STATE_BYTES],
     first_page: Vec<u8>,
     state: [u8; STATE_BYTES],
-    mem: Vec<u8>,
-    frames: Vec<u8>,
+    mem: Aligned,
+    frames: Aligned,
     numbers: Vec<u64>,
-    clean: Vec<u8>,
+    clean: Aligned,
     record: Vec<u64>,
     work: Vec<u64>,
 }
 
 impl Library {
     fn open(image: &[u8], frames: usize, spare: usize) -> Self {
-        let mut mem = image.to_vec();
-        mem.resize(image.len() + spare, 0);
+        let mut mem = Aligned::zeros(image.len() + spare);
+        mem[..image.len()].copy_from_slice(image);
         let mut state = [0; STATE_BYTES];
         let count = (image.len() / STABLE_PAGE_BYTES) as u64;
         let number = raw::open(&mut state, &mut mem, count, &mut [0; ANSWER_NUMBERS]);
@@ -66,9 +67,9 @@ impl Library {
             first_page: image[..STABLE_PAGE_BYTES].to_vec(),
             state,
             mem,
-            frames: vec![0; frames * PAGE_BYTES],
+            frames: Aligned::zeros(frames * PAGE_BYTES),
             numbers: vec![0; frames],
-            clean: vec![0; CLEAN_BYTES],
+            clean: Aligned::zeros(CLEAN_BYTES),
             record: vec![0; 2 * RECORD_ENTRIES],
             work: vec![0; work_numbers(frames)],
         }
@@ -109,6 +110,10 @@ impl Side for Library {
 
     fn write(&mut self, offset: u64, bytes: &[u8]) {
         self.on_all(|state, lent, answer| raw::write_at(state, lent, offset, bytes, answer));
+    }
+
+    fn truncate(&mut self, size: u64) {
+        self.on_all(|state, lent, answer| raw::truncate(state, lent, size, answer));
     }
 
     fn commit(&mut self) {
@@ -186,6 +191,10 @@ impl Side for Wrapped {
     fn write(&mut self, offset: u64, bytes: &[u8]) {
         let written = self.store.write_at(offset, bytes);
         written.expect("an accepted call");
+    }
+
+    fn truncate(&mut self, size: u64) {
+        self.store.truncate(size).expect("an accepted call");
     }
 
     fn commit(&mut self) {
@@ -268,6 +277,10 @@ impl Side for Original {
             .expect("an accepted call");
     }
 
+    fn truncate(&mut self, size: u64) {
+        self.store().truncate(size).expect("an accepted call");
+    }
+
     fn commit(&mut self) {
         self.store().commit_update().expect("an accepted call");
     }
@@ -315,7 +328,23 @@ pub struct Pair<L = Library> {
 impl Pair {
     /// The same image on both sides; the library is lent so many frames, and memory has so many spare bytes.
     pub fn open(pages: u64, runs: u64, frames: usize, spare: usize) -> Self {
-        let image: Rc<[u8]> = image::of(pages, runs).into();
+        Self::of(image::of(pages, runs), frames, spare)
+    }
+
+    /// The same with an image of which one page in 16 is data.
+    pub fn sparse(pages: u64, runs: u64) -> Self {
+        Self::of(image::sparse(pages, runs), 0, 0)
+    }
+
+    /// The same with a record that has so many entries.
+    pub fn recording(pages: u64, runs: u64, entries: usize, spare: usize) -> Self {
+        let mut pair = Self::open(pages, runs, 0, spare);
+        pair.library.record = vec![0; 2 * entries];
+        pair
+    }
+
+    fn of(image: Vec<u8>, frames: usize, spare: usize) -> Self {
+        let image: Rc<[u8]> = image.into();
         Self {
             library: Library::open(&image, frames, spare),
             original: Original::open(image, spare),

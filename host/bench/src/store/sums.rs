@@ -14,18 +14,26 @@ const IMPORT: usize = 16 * MIB;
 /// The image that is there before an import.
 const IMAGE_PAGES: u64 = 4;
 
+/// The runs of a sparse image: one behind all its data, and one behind each page of it.
+const SPARSE_RUNS: [u64; 2] = [1, CHECKSUM_PAGES / 16];
+
 pub fn report() {
-    RUNS.into_iter().for_each(checksum);
+    for runs in RUNS {
+        let pair = Pair::open(CHECKSUM_PAGES, runs, 0, 0);
+        checksum(pair, "checksum of 64 MiB", runs);
+    }
+    for runs in SPARSE_RUNS {
+        let pair = Pair::sparse(CHECKSUM_PAGES, runs);
+        checksum(pair, "checksum of 64 MiB, of which 4 MiB are data", runs);
+    }
     RUNS.into_iter().for_each(refresh);
     import();
 }
 
-fn checksum(runs: u64) {
-    let mut pair = Pair::open(CHECKSUM_PAGES, runs, 0, 0);
+fn checksum(mut pair: Pair, name: &str, runs: u64) {
     let sum = pair.library.checksum();
     let round = |side: &mut dyn Side| [time(|| assert_eq!(side.checksum(), sum))];
     let [times] = measure(&mut pair, 1, round);
-    let name = "checksum of 64 MiB";
     let frames = 0;
     times.print(&Row { name, runs, frames });
 }
