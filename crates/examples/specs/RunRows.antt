@@ -123,10 +123,7 @@ module _ (pages : ℕ) (rs : List ZeroExtent) (few : length rs ≡ 1024) (sorted
 
   fits-block : FitsBlock (blockOf pages)
   unfolding blockOf
-  fits-block = record { magic = omega arith; version = omega arith; size = omega arith; fields = fields-wide }
-    where
-      fields-wide : Wide (fieldsOf (blockOf pages))
-      fields-wide = widths (fieldsOf (blockOf pages)) (omega arith, (omega arith, (omega arith, (omega arith, (omega arith, (omega arith, (omega arith, (omega arith, (omega arith, (omega arith, (omega arith, (omega arith, (omega arith, (omega arith, (omega arith, (omega arith, (omega arith, (omega arith, tt))))))))))))))))))
+  fits-block = record { magic = omega arith; version = omega arith; size = omega arith; fields = widths (fieldsOf (blockOf pages)) (omega arith) }
 
   loads : realCodec .load (lentRuns pages rs n .mem) ≡ Block (sealed realCodec (blockOf pages) rs)
   unfolding lentRuns realCodec blockOf

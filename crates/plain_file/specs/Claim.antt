@@ -34,8 +34,8 @@ pub record Kept (begun before after left : List ℕ) (live : ℕ) : Type 0 where
   pub call : after ≡ before
   pub began : take live left ≡ begun
 
--- a direct call is a begin, itself and a commit: it is accepted only where the commit's test is passed; 31, 20 and 32 are the test's, but for a call that
--- itself ends above the largest number; and refused it leaves memory as it was
+-- a direct call is a begin, itself and a commit: it is accepted only where the commit's test is passed; 31 and 32 are the test's, and so is 20 unless the
+-- call itself ends above the largest number; refused it leaves memory as it was
 pub record Direct (M end answered ground : ℕ) (before after : List ℕ) : Type 0 where
   pub accepted : answered ≡ 0 → ground ≡ 0
   pub runs : answered ≡ 31 → ground ≡ 31

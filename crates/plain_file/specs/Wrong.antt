@@ -1,4 +1,4 @@
--- The claim has teeth: ten wrong stores do not meet it. Each is our store, at small sizes, with something done wrong; a concrete list of calls shows the read,
+-- The claim has teeth: eleven wrong stores do not meet it. Each is our store, at small sizes, with something done wrong; a concrete list of calls shows the read,
 -- the ground or the length that differs.
 use mathlib.Core.Path.{_≡_, refl}
 use Prim.Native.Nat.{ℕ, zero, suc, _+_, _-_, _*_, _/_, _≤_, _<_}
@@ -395,6 +395,27 @@ hoard-shows h = h (lends-self _ _) tt .1 .memory (omega arith)
 
 pub hoard-fails : Small hoard → ⊥
 hoard-fails h = let e : 24048 ≤ 48 = hoard-shows (promised4 hoard h hoardCalls) in omega arith
+
+-- ## A store that counts a thousand dirty pages more after each call of an update
+
+abbrev pub fuller : Mode → State → State
+fuller idle s = s
+fuller (update v) s =
+    let counted : Overlay = record { «base_size» = v .«base_size»; size = v .size; dirty = v .dirty + 1000; recorded = v .recorded; cache = v .cache; budget = v .budget } in
+    record { count = s .count; block = s .block; updating = s .updating; overlay = counted }
+
+unfoldable pub greedy : Step
+greedy s l c = let x : Out = right s l c in cond (short 2 24 1 3 s l c) (refuse s l c BufferTooShort) (out (fuller (modeOf (x .state)) (x .state)) (x .lent) (x .answer) (x .filled))
+
+unfoldable greedyCalls : List Call
+greedyCalls = begin0 ∷ []
+
+greedy-shows : Promised greedy 4 greedyCalls → _≡_ {A = Bool} true false
+unfolding count zeros overwrite resize growMemory requiredPages normalized within merge insert add around remove flatRuns additions addOne remain plan put refill tabulate addNumberIf span grownNumbers imageByte imagePage pushRun raw overByte budgetBytes raised touch blank copy stretch patch finish grow growTo chop tail truncated wholePage overWrite written fresh lookUp sized passing marked tryTouch tryPatch tryFinish tryGrow tryGrowTo tryTail tryChop tryTruncate tryWrite frameCount entryCount wiped cached shortBuffers view overlayOf putBack stored smallCodec smallSum smallDecode smallRuns smallLoad smallFresh importing stale refreshing marks afterCommit short storePlan noOverlay imageBytes unchanged plannedRuns commitOver store outside open′ copied spoil newRun pagesWith endsWithin grownDirty draftWrite draftTruncate ground fileGround fileOf laid leaves lentWith right begin0 greedyCalls greedy
+greedy-shows h = h (lends-self _ _) tt .1 .buffers refl
+
+pub greedy-fails : Small greedy → ⊥
+greedy-fails h = let e : _≡_ {A = Bool} true false = greedy-shows (promised4 greedy h greedyCalls) in clash refl e
 
 -- ## A store that answers 20 to every write and truncation with no update open
 
