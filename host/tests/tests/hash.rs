@@ -49,7 +49,10 @@ fn compare(bytes: &[u8]) {
 fn every_length_to_a_thousand() {
     let mut prng = Prng::new(11);
     for len in 0..=1_000 {
-        compare(&prng.bytes(len));
+        let bytes = prng.bytes(len);
+        compare(&bytes);
+        let mostly_zeros: Vec<u8> = bytes.iter().map(|byte| byte.saturating_sub(200)).collect();
+        compare(&mostly_zeros);
         compare(&vec![0; len]);
         compare(&vec![0xff; len]);
     }
