@@ -3,7 +3,7 @@
 use mathlib.Core.Path.{_≡_, refl, sym, ap, _∙_}
 use Prim.Native.Nat.{ℕ, _+_, _*_, _≤_}
 use native.Mathlib.Omega.{arith}
-use mathlib.Core.Bool.{Bool, true, false, cond, _||_, or-false}
+use mathlib.Core.Bool.{Bool, true, false, cond, or-false}
 use mathlib.Core.List.{List, []}
 use lib.Dec.{ltb}
 use lib.ListN.{length, take}
@@ -18,7 +18,7 @@ use Rattle.meta.specs.declared.ZeroExtent.{ZeroExtent}
 use Rattle.runs.specs.Flat.{runsIn}
 use Rattle.extents.specs.Plan.{tooMany, kept, below, Answer as Planned}
 use Rattle.update.specs.declared.Overlay.{Overlay}
-use Rattle.update.specs.ListLaws.{clash, resize-take}
+use Rattle.update.specs.ListLaws.{resize-take}
 use Rattle.update.specs.Pages.{pageNumbers, pagesIn}
 use Rattle.update.specs.Update.{Over}
 use Rattle.update.specs.Buffers.{Buffers, frameCount, wiped, view}
@@ -28,6 +28,7 @@ use Rattle.update.specs.SettleLaws.{settle-fits}
 use Rattle.store.specs.declared.State.{State}
 use Rattle.store.specs.declared.Answer.the-variants.{Done, Refused}
 use Rattle.store.specs.Codec.{Codec, realCodec}
+use Rattle.store.specs.Cases.{no-or}
 use Rattle.store.specs.Calls.{Call, commit, rollback, uses, lentBytes, Lent, Out, out, modeIf, modeOf, buffersShort, short}
 use Rattle.store.specs.Plan.{required}
 use Rattle.store.specs.Store.{ended, unchanged, plannedRuns, publish, settle, commitOver, doCommit, doRollback, act, swept, store}
@@ -89,10 +90,6 @@ module _ (u : Bool) (s : State) (m : List ℕ) (b : Buffers) (work : List ℕ) (
       ∙ sym (ap (swept 16384 65536 8 1024 18446744073709551615 realCodec true) over-is)
 
 -- ## 35 first
-
-no-or : (a b : Bool) → (a || b) ≡ false → (a ≡ false) × (b ≡ false)
-no-or true b h = clash refl h
-no-or false b h = (refl, h)
 
 module _ (s : State) (l : Lent) (c : Call) where
   refused-35 : short 16384 65536 8 1024 s l c ≡ true → calls s l c ≡ out s l (Refused BufferTooShort) (lentBytes c)

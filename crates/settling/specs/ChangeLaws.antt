@@ -22,7 +22,6 @@ use Rattle.update.specs.declared.Overlay.{Overlay}
 use Rattle.update.specs.declared.Budget.{Budget}
 use Rattle.update.specs.declared.Verdict.{Verdict}
 use Rattle.update.specs.declared.Verdict.the-variants.{Accepted, Refused as Unchanged}
-use Rattle.update.specs.ListLaws.{clash}
 use Rattle.update.specs.Pages.{pageNumbers}
 use Rattle.update.specs.Image.{imageIn}
 use Rattle.update.specs.Update.{Over, fresh, Tried, accepted, refused, left, tryWrite, tryTruncate, truncateReach}
@@ -38,6 +37,7 @@ use Rattle.store.specs.declared.Answer.{Answer}
 use Rattle.store.specs.declared.Answer.the-variants.{Done, Refused}
 use Rattle.store.specs.Codec.{Codec, realCodec, sealed, stored}
 use Rattle.store.specs.Blocks.{afterCommit}
+use Rattle.store.specs.Cases.{no-or}
 use Rattle.store.specs.Calls.{write, truncate, commit, Lent, out, Mode, idle, update, modeIf, modeOf, buffersShort, short}
 use Rattle.store.specs.Plan.{required}
 use Rattle.store.specs.Store.{budgetOf, ended, over, unchanged, plannedRuns, publish, commitOver, direct, change, inUpdate, working, answerOf, swept, refuse, store, act, writePages}
@@ -181,10 +181,6 @@ module _ (s : State) (m w : List ℕ) (b : Buffers) (f : Over → Tried) (reach 
   settled-is (update v) h busy r e = update-is v b s m w (reach (view 16384 8 v b)) (f (view 16384 8 v b)) v′ b′ a e
 
 -- ## What 35 leaves to hold
-
-no-or : (a b : Bool) → (a || b) ≡ false → (a ≡ false) × (b ≡ false)
-no-or true b h = clash refl h
-no-or false b h = (refl, h)
 
 module _ (s : State) (m w : List ℕ) (b : Buffers) (h : short 16384 65536 8 1024 s (lent m b w) commit ≡ false) where
   abbrev bufs-short : Bool

@@ -9,15 +9,15 @@ pub struct Aligned {
     /// Never grows, so that it never moves.
     bytes: Vec<u8>,
     start: usize,
-    len: usize,
 }
 
 impl Aligned {
     pub fn zeros(len: usize) -> Self {
-        let bytes = vec![0; len + LINE - 1];
+        let mut bytes = vec![0; len + LINE - 1];
         // an offset that is none would cost time alone
         let start = bytes.as_ptr().align_offset(LINE).min(LINE - 1);
-        Self { bytes, start, len }
+        bytes.truncate(start + len);
+        Self { bytes, start }
     }
 }
 
@@ -25,12 +25,12 @@ impl Deref for Aligned {
     type Target = [u8];
 
     fn deref(&self) -> &[u8] {
-        &self.bytes[self.start..][..self.len]
+        &self.bytes[self.start..]
     }
 }
 
 impl DerefMut for Aligned {
     fn deref_mut(&mut self) -> &mut [u8] {
-        &mut self.bytes[self.start..][..self.len]
+        &mut self.bytes[self.start..]
     }
 }

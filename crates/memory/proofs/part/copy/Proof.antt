@@ -19,7 +19,7 @@ abbrev μ-loop : tie.MeasureT-loop
 μ-loop dst₀ src n done₀ dst done = n - done
 
 -- the next part, from `done` to its end, lies whole in both slices
-inside : (done n m d s : ℕ) → done ≤ n → n ≡ min d s → m ≡ min 16384 (n - done) → (done + (done + m - done) ≤ d) × ((done + (done + m - done) ≤ s) × (done + m - done ≤ 16384))
+inside : (done n m d s : ℕ) → done ≤ n → n ≡ min d s → m ≡ min 512 (n - done) → (done + (done + m - done) ≤ d) × ((done + (done + m - done) ≤ s) × (done + m - done ≤ 512))
 inside done n m d s h e f = omega arith
 
 -- so far as the shorter slice reaches is all that is seen
@@ -30,7 +30,7 @@ whole done n src dst e f = below done (length dst)
 
 fits : (c : tie.After-least2 Inv-loop μ-loop) → let x = c .before .before .loop in let a = c .before .before .before .before .before .before .args in
     (x .done + (x .done + c .least2 .result - x .done) ≤ length (a .dst .now))
-    × ((x .done + (x .done + c .least2 .result - x .done) ≤ length (a .src .now)) × (x .done + c .least2 .result - x .done ≤ 16384))
+    × ((x .done + (x .done + c .least2 .result - x .done) ≤ length (a .src .now)) × (x .done + c .least2 .result - x .done ≤ 512))
 fits c =
     let x = c .before .before .loop in
     inside (x .done) (c .before .before .before .least .result) (c .least2 .result) _ _ (x .inv .0) (x .inv .1 .0) (c .least2 .ensures)
