@@ -27,8 +27,7 @@ pub fn measure<const N: usize, L: Held>(
     operations: u32,
     mut round: impl FnMut(&mut dyn Side) -> [Duration; N],
 ) -> [Times; N] {
-    round(&mut pair.library);
-    round(&mut pair.original);
+    pair.both(&mut round);
     let mut times: [Times; N] = std::array::from_fn(|_| Times::default());
     let each = |took: Duration| took.as_nanos() as f64 / f64::from(operations);
     let began = Instant::now();
@@ -36,7 +35,7 @@ pub fn measure<const N: usize, L: Held>(
         if done >= AT_LEAST && began.elapsed() > TIME_A_ROW {
             break;
         }
-        let (library, original) = (round(&mut pair.library), round(&mut pair.original));
+        let [library, original] = pair.both(&mut round);
         for at in 0..N {
             times[at].library.push(each(library[at]));
             times[at].original.push(each(original[at]));

@@ -24,8 +24,7 @@ fn row(name: &str, updating: bool, frames: usize, call: fn(&mut dyn Side)) {
     let runs = 0;
     let mut pair = Pair::open(4, runs, frames, 0);
     if updating {
-        pair.library.begin();
-        pair.original.begin();
+        pair.both(|side| side.begin());
     }
     let round = |side: &mut dyn Side| [time(|| (0..CALLS).for_each(|_| call(side)))];
     let [times] = measure(&mut pair, CALLS, round);

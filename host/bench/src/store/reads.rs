@@ -66,8 +66,7 @@ fn read(of: &str, runs: u64, len: usize, place: &Place) {
     let frames = place.dirty as usize;
     let mut pair = Pair::open(PAGES, runs, frames, 0);
     if place.updating {
-        make_dirty(&mut pair.library, place.dirty);
-        make_dirty(&mut pair.original, place.dirty);
+        pair.both(|side| make_dirty(side, place.dirty));
     }
     let name = &format!("read {of}, {}", place.name);
     let row = Row { name, runs, frames };

@@ -27,9 +27,11 @@ pub trait Side {
     fn reopen(&mut self);
 }
 
-/// The library's side.
-pub trait Held: Side {
+/// The library's side, with the buffers that it is lent.
+pub trait Held {
     fn memory(&self) -> &[u8];
+    /// Lends the buffers for many calls at once: what it takes to lend them is no part of a call.
+    fn lend(&mut self, work: &mut dyn FnMut(&mut dyn Side));
 }
 
 /// Begins an update and writes the first pages.
@@ -74,9 +76,16 @@ impl Library {
             work: vec![0; work_numbers(frames)],
         }
     }
+}
 
-    fn on_all(&mut self, call: impl FnOnce(&mut [u8], &mut Lent, &mut [u64]) -> u64) {
-        let mut lent = Lent {
+impl Held for Library {
+    fn memory(&self) -> &[u8] {
+        let count = u64::from_le_bytes(self.state[..8].try_into().expect("eight bytes"));
+        &self.mem[..count as usize * STABLE_PAGE_BYTES]
+    }
+
+    fn lend(&mut self, work: &mut dyn FnMut(&mut dyn Side)) {
+        let lent = Lent {
             mem: &mut self.mem,
             frames: &mut self.frames,
             numbers: &mut self.numbers,
@@ -84,7 +93,26 @@ impl Library {
             record: &mut self.record,
             work: &mut self.work,
         };
-        let number = call(&mut self.state, &mut lent, &mut [0; ANSWER_NUMBERS]);
+        work(&mut Calls {
+            opened: &self.opened,
+            first_page: &self.first_page,
+            state: &mut self.state,
+            lent,
+        });
+    }
+}
+
+/// The library's calls, with slices lent to each and no more.
+struct Calls<'a> {
+    opened: &'a [u8; STATE_BYTES],
+    first_page: &'a [u8],
+    state: &'a mut [u8; STATE_BYTES],
+    lent: Lent<'a>,
+}
+
+impl Calls<'_> {
+    fn on_all(&mut self, call: impl FnOnce(&mut [u8], &mut Lent, &mut [u64]) -> u64) {
+        let number = call(self.state, &mut self.lent, &mut [0; ANSWER_NUMBERS]);
         assert_eq!(number, 0, "an accepted call");
     }
 
@@ -93,13 +121,13 @@ impl Library {
         call: impl FnOnce(&mut [u8], &mut [u8], &mut [u64]) -> u64,
     ) -> [u64; ANSWER_NUMBERS] {
         let mut answer = [0; ANSWER_NUMBERS];
-        let number = call(&mut self.state, &mut self.mem, &mut answer);
+        let number = call(self.state, self.lent.mem, &mut answer);
         assert_eq!(number, 0, "an accepted call");
         answer
     }
 }
 
-impl Side for Library {
+impl Side for Calls<'_> {
     fn begin(&mut self) {
         self.on_memory(|state, _, answer| raw::begin_update(state, 0, 0, 0, answer));
     }
@@ -148,15 +176,8 @@ impl Side for Library {
     }
 
     fn reopen(&mut self) {
-        self.state = self.opened;
-        self.mem[..STABLE_PAGE_BYTES].copy_from_slice(&self.first_page);
-    }
-}
-
-impl Held for Library {
-    fn memory(&self) -> &[u8] {
-        let count = u64::from_le_bytes(self.state[..8].try_into().expect("eight bytes"));
-        &self.mem[..count as usize * STABLE_PAGE_BYTES]
+        *self.state = *self.opened;
+        self.lent.mem[..STABLE_PAGE_BYTES].copy_from_slice(self.first_page);
     }
 }
 
@@ -236,6 +257,10 @@ impl Side for Wrapped {
 impl Held for Wrapped {
     fn memory(&self) -> &[u8] {
         self.store.memory()
+    }
+
+    fn lend(&mut self, work: &mut dyn FnMut(&mut dyn Side)) {
+        work(self);
     }
 }
 
@@ -364,12 +389,22 @@ impl Pair<Wrapped> {
 }
 
 impl<L: Held> Pair<L> {
-    /// Both sides, the library first, and then whether they read the same.
+    /// What both sides give of the same work: the library, then the original.
+    pub fn both<T>(&mut self, mut work: impl FnMut(&mut dyn Side) -> T) -> [T; 2] {
+        let mut library = None;
+        self.library.lend(&mut |side| library = Some(work(side)));
+        let library = library.expect("lent once");
+        [library, work(&mut self.original)]
+    }
+
+    /// Both sides read the same.
     pub fn read_same(&mut self, offset: u64, len: usize) {
-        let (mut one, mut other) = (vec![0; len], vec![0; len]);
-        self.library.read(offset, &mut one);
-        self.original.read(offset, &mut other);
-        assert_eq!(one, other, "one file");
+        let [library, original] = self.both(|side| {
+            let mut bytes = vec![0; len];
+            side.read(offset, &mut bytes);
+            bytes
+        });
+        assert_eq!(library, original, "one file");
     }
 
     /// With no update open, memory is the same on both sides.

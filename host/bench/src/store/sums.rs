@@ -31,7 +31,7 @@ pub fn report() {
 }
 
 fn checksum(mut pair: Pair, name: &str, runs: u64) {
-    let sum = pair.library.checksum();
+    let [sum, _] = pair.both(|side| side.checksum());
     let round = |side: &mut dyn Side| [time(|| assert_eq!(side.checksum(), sum))];
     let [times] = measure(&mut pair, 1, round);
     let frames = 0;
@@ -40,7 +40,7 @@ fn checksum(mut pair: Pair, name: &str, runs: u64) {
 
 fn refresh(runs: u64) {
     let mut pair = Pair::open(REFRESH_PAGES, runs, 0, 0);
-    let sum = pair.library.checksum();
+    let [sum, _] = pair.both(|side| side.checksum());
     let round = |side: &mut dyn Side| {
         let took = time(|| {
             let hashes = (0..STEPS).map(|_| side.refresh(STEP));

@@ -46,11 +46,10 @@ fn new_page(of: &str, runs: u64, len: usize, dirty: u64) {
     };
     let [times] = measure(&mut pair, NEW as u32, round);
     pair.is_same();
-    let Pair { library, original } = &mut pair;
-    for side in [library as &mut dyn Side, original] {
+    pair.both(|side| {
         make_dirty(side, dirty);
         side.write(FIRST_NEW * PAGE, &bytes);
-    }
+    });
     pair.read_same(FIRST_NEW * PAGE, PAGE as usize);
     let name = &format!("write {of} to a new page, {dirty} dirty");
     times.print(&Row { name, runs, frames });
@@ -59,8 +58,7 @@ fn new_page(of: &str, runs: u64, len: usize, dirty: u64) {
 fn dirty_page(runs: u64, dirty: u64) {
     let frames = dirty as usize;
     let mut pair = Pair::open(PAGES, runs, frames, 0);
-    make_dirty(&mut pair.library, dirty);
-    make_dirty(&mut pair.original, dirty);
+    pair.both(|side| make_dirty(side, dirty));
     let bytes = image::bytes(SMALL);
     let round = |side: &mut dyn Side| {
         let took = time(|| {
