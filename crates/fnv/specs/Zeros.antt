@@ -3,9 +3,14 @@ use mathlib.Core.Path.{_≡_, refl, sym, ap, _∙_}
 use Prim.Native.Nat.{ℕ, zero, suc, _+_, _*_, _%_, _^_, _<_}
 use native.Mathlib.Nat.{mul-assoc, mul-comm, pow-zero, pow-suc, two-pow-succ, zero-add, suc-add}
 use native.Mathlib.Omega.{arith}
-use lib.ListN.{replicate}
+use mathlib.Core.Bool.{Bool, true, false, false≢true, _&&_}
+use mathlib.Core.List.{List, [], _∷_, _++_}
+use lib.Dec.{eqb}
+use lib.ListN.{length, take, drop, getD, replicate}
 use lib.Bits.{xor-zero-r}
+use borrow.Author.Tests.{ne-eqb}
 use Rattle.fnv.specs.Fnv.{prime, step, fold, mixed-is}
+use Rattle.fnv.specs.Parts.{take-next}
 use Rattle.fnv.specs.Products.{mod-left, mod-right}
 
 -- the n-th power of the prime, modulo 2^64
@@ -19,6 +24,12 @@ foldZeros n h = fold h (replicate n 0)
 pub foldZeros-is : (n h : ℕ) → foldZeros n h ≡ fold h (replicate n 0)
 unfolding foldZeros
 foldZeros-is n h = refl
+
+-- whether all of them are zeros
+abbrev pub allZeros : List ℕ → Bool
+allZeros [] = true
+allZeros (zero ∷ xs) = allZeros xs
+allZeros (suc x ∷ xs) = false
 
 -- ## Powers by repeated squaring
 
@@ -76,8 +87,36 @@ zeros-multiply (suc n) h lt =
     ∙ ap (λ (x : ℕ). x % 2 ^ 64) (mul-assoc h prime (power n))
     ∙ sym (ap (λ (x : ℕ). (h * x) % 2 ^ 64) (power-suc n) ∙ mod-right h (prime * power n) (2 ^ 64))
 
-pub five-zeros : (h : ℕ) → h < 2 ^ 64 → fold h (replicate 5 0) ≡ (h * 0xcaee32a7d4f6a63) % 2 ^ 64
-five-zeros h lt = sym (foldZeros-is 5 h) ∙ zeros-multiply 5 h lt ∙ ap (λ (x : ℕ). (h * x) % 2 ^ 64) power-five
+-- ## Bytes that are all zeros
+
+positive : (x : ℕ) → eqb (suc x) 0 ≡ false
+positive x = ne-eqb (suc x) 0 (λ e. omega (arith, e))
+
+sum-zero : (a b : ℕ) → eqb (a + b) 0 ≡ (eqb a 0 && eqb b 0)
+sum-zero zero b = rw (zero-add b)
+sum-zero (suc a) b = rw (suc-add a b, positive (a + b), positive a)
+
+zeros-join : (xs : List ℕ) (x : ℕ) → allZeros (xs ++ (x ∷ [])) ≡ (allZeros xs && eqb x 0)
+zeros-join [] zero = refl
+zeros-join [] (suc x) = sym (positive x)
+zeros-join (zero ∷ xs) x = zeros-join xs x
+zeros-join (suc y ∷ xs) x = refl
+
+-- their sum says it: one byte more
+pub zeros-next : (l : List ℕ) (at k x sum : ℕ) → at + k < length l → x ≡ getD l (at + k) 0 → eqb sum 0 ≡ allZeros (take k (drop at l))
+    → eqb (sum + x) 0 ≡ allZeros (take (k + 1) (drop at l))
+zeros-next l at k x sum lt w e =
+    sum-zero sum x ∙ ap (λ (b : Bool). b && eqb x 0) e ∙ sym (zeros-join (take k (drop at l)) x)
+    ∙ ap allZeros (ap (λ (y : ℕ). take k (drop at l) ++ (y ∷ [])) w ∙ sym (take-next l at k lt))
+
+zeros-are : (l : List ℕ) → allZeros l ≡ true → l ≡ replicate (length l) 0
+zeros-are [] z = refl
+zeros-are (zero ∷ xs) z = ap (λ (r : List ℕ). 0 ∷ r) (zeros-are xs z)
+zeros-are (suc x ∷ xs) z = absurd (false≢true z)
+
+pub five-zeros : (l : List ℕ) (h : ℕ) → h < 2 ^ 64 → length l ≡ 5 → allZeros l ≡ true → fold h l ≡ (h * 0xcaee32a7d4f6a63) % 2 ^ 64
+five-zeros l h lt n z =
+    ap (fold h) (zeros-are l z ∙ ap (λ (k : ℕ). replicate k 0) n) ∙ sym (foldZeros-is 5 h) ∙ zeros-multiply 5 h lt ∙ ap (λ (x : ℕ). (h * x) % 2 ^ 64) power-five
 
 pub page-zeros : (h : ℕ) → h < 2 ^ 64 → foldZeros 16384 h ≡ (h * 0xe196b542ec410001) % 2 ^ 64
 page-zeros h lt = zeros-multiply 16384 h lt ∙ ap (λ (x : ℕ). (h * x) % 2 ^ 64) power-page

@@ -1,12 +1,11 @@
 // 64-bit FNV-1a.
-ghost use mathlib.Core.Bool.{true};
 ghost use mathlib.Core.Path.{_≡_};
 ghost use Prim.Native.Nat.{_+_, _*_, _%_, _^_, _≤_, _<_};
-ghost use lib.ListN.{length, take, drop, replicate};
+ghost use lib.ListN.{length, take, drop};
 ghost use Rattle.fnv.specs.Fnv.{fold};
 ghost use Rattle.fnv.specs.Fnv.{step as taken};
 ghost use Rattle.fnv.specs.Fnv.{fnv1a64 as hashed};
-ghost use Rattle.fnv.specs.Zeros.{foldZeros};
+ghost use Rattle.fnv.specs.Zeros.{foldZeros, allZeros};
 
 pub const FNV_OFFSET_BASIS: u64 = 0xcbf2_9ce4_8422_2325;
 
@@ -57,7 +56,7 @@ fn wide(x: u8) -> u64
 // Whether the five bytes from `at` on are zeros. The loop has no way out, so that it costs a test and no more.
 fn are_zeros(bytes: &[u8], at: usize) -> bool
     requires { ⌜ at + 5 ≤ length (now bytes) ⌝ }
-    ensures { λ r. ⌜ (r ≡ true → take 5 (drop at (now (bytes .entry))) ≡ replicate 5 0) ⌝ }
+    ensures { λ r. ⌜ r ≡ allZeros (take 5 (drop at (now (bytes .entry)))) ⌝ }
 {
     let mut sum: u64 = 0;
     let mut k: usize = 0;

@@ -1,6 +1,6 @@
 -- Pages in a pool, as the code walks it, and runs pushed on the record.
 use Prim.Native.Nat.{ℕ, zero, suc, _*_, _/_}
-use mathlib.Core.Bool.{Bool, true, false, not, cond}
+use mathlib.Core.Bool.{Bool, true, false, not, cond, _||_}
 use mathlib.Core.List.{List, [], _∷_}
 use lib.Dec.{ltb, leb, eqb}
 use lib.ListN.{length, take, drop, getD, set}
@@ -8,6 +8,11 @@ use Rattle.memory.specs.Bytes.{overwrite}
 use Rattle.update.specs.Frames.{Pool, pool}
 use Rattle.pool.specs.declared.record.Pushed.{Pushed}
 use Rattle.pool.specs.declared.record.Pushed.the-variants.{Entries, Full}
+
+-- page q is one of the numbers
+abbrev pub among : List ℕ → ℕ → Bool
+among [] q = false
+among (n ∷ ns) q = eqb n q || among ns q
 
 -- the pages below p, or all but p
 abbrev pub stays : Bool → ℕ → ℕ → Bool

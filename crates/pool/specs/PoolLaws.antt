@@ -1,18 +1,19 @@
 -- Laws of a pool of pages as the code walks it.
-use mathlib.Core.Path.{_≡_, sym, ap, _∙_}
-use Prim.Native.Nat.{ℕ, suc, _+_, _-_, _*_, _/_, _≤_, _<_, min}
+use mathlib.Core.Path.{_≡_, refl, sym, ap, _∙_}
+use Prim.Native.Nat.{ℕ, zero, suc, _+_, _-_, _*_, _/_, _≤_, _<_, min}
 use native.Mathlib.Numerals.{add-one}
 use native.Mathlib.Omega.{arith}
-use mathlib.Core.Bool.{Bool, true, false}
+use mathlib.Core.Bool.{Bool, true, false, true≢false, _||_}
 use mathlib.Core.List.{List, [], _∷_, _++_}
+use lib.Dec.{eqb}
 use lib.ListN.{length, take, drop, getD, set, length-take, length-drop, drop-of-length-le}
-use lib.Seq.{drop-cons, take-suc, getD-take, getD-drop, set-getD}
+use lib.Seq.{drop-cons, take-suc, getD-take, getD-drop, drop-drop, set-getD}
 use borrow.Author.Tests.{eq-eqb, ne-eqb, lt-ltb, le-ltb, le-leb, lt-leb}
 use Rattle.memory.specs.Bytes.{overwrite}
 use Rattle.memory.specs.Laws.{split, length-part, length-overwrite, overwrite-hi, overwrite-join, set-overwrite}
 use Rattle.update.specs.Pages.{placeOf}
 use Rattle.update.specs.Frames.{Pool, pool}
-use Rattle.pool.specs.Pool.{stays, keptOne, walked, pushes, pushed}
+use Rattle.pool.specs.Pool.{among, stays, keptOne, walked, pushes, pushed}
 use Rattle.pool.specs.declared.record.Pushed.the-variants.{Entries, Full}
 use Rattle.update.specs.ListLaws.{overwrite-self}
 
@@ -30,6 +31,46 @@ module _ (count : ℕ) (ns : List ℕ) (page i : ℕ) (h : i < min count (length
 
 pub place-end : (count : ℕ) (ns : List ℕ) (page i : ℕ) → min count (length ns) ≤ i → i + placeOf (drop i (take count ns)) page ≡ i
 place-end count ns page i h = rw (drop-of-length-le (take count ns) {i = i} (simp length-take (omega arith))) (omega arith)
+
+-- ## By blocks
+
+or-swap : (a b c : Bool) → (a || (b || c)) ≡ (b || (a || c))
+or-swap true true c = refl
+or-swap true false c = refl
+or-swap false b c = refl
+
+among-more : (ns : List ℕ) (n q : ℕ) → among (ns ++ (n ∷ [])) q ≡ (eqb n q || among ns q)
+among-more [] n q = refl
+among-more (m ∷ ns) n q = rw (among-more ns n q) (or-swap (eqb m q) (eqb n q) (among ns q))
+
+-- the place of a page that is not among the first k numbers is behind them
+place-past : (k : ℕ) (ns : List ℕ) (q : ℕ) → k ≤ length ns → among (take k ns) q ≡ false → placeOf ns q ≡ k + placeOf (drop k ns) q
+place-past zero ns q h f = omega arith
+place-past (suc k) [] q h f = omega arith
+place-past (suc k) (n ∷ ns) q h f =
+    split (eqb n q)
+    (λ t. absurd (true≢false (rw t at f)))
+    (λ t. rw t (let r : placeOf ns q ≡ k + placeOf (drop k ns) q = place-past k ns q (omega arith) (rw t at f) in omega arith))
+
+module _ (count : ℕ) (ns : List ℕ) (page i : ℕ) where
+  -- one number more of the block
+  pub block-more : (k : ℕ) → i ≤ k → k < min count (length ns)
+      → (eqb (getD ns k 0) page || among (take (k - i) (drop i (take count ns))) page) ≡ among (take (k + 1 - i) (drop i (take count ns))) page
+  block-more k le lt =
+      let part : List ℕ = drop i (take count ns) in
+      let at : i + (k - i) ≡ k = omega arith in
+      let more : k + 1 - i ≡ suc (k - i) = omega arith in
+      let last : getD part (k - i) 0 ≡ getD ns k 0 = getD-drop i (take count ns) (k - i) 0 ∙ rw at (getD-take count ns k 0 (omega arith)) in
+      let e : take (suc (k - i)) part ≡ take (k - i) part ++ (getD ns k 0 ∷ []) = take-suc part (k - i) 0 (simp (length-drop, length-take) (omega arith)) ∙ rw last in
+      rw (more, e) (sym (among-more (take (k - i) part) (getD ns k 0) page))
+
+  -- the block has not the page
+  pub block-missed : i + 8 ≤ min count (length ns) → among (take 8 (drop i (take count ns))) page ≡ false
+      → i + placeOf (drop i (take count ns)) page ≡ i + 8 + placeOf (drop (i + 8) (take count ns)) page
+  block-missed h f =
+      let r : placeOf (drop i (take count ns)) page ≡ 8 + placeOf (drop 8 (drop i (take count ns))) page = place-past 8 (drop i (take count ns)) page (simp (length-drop, length-take) (omega arith)) f in
+      let d : drop 8 (drop i (take count ns)) ≡ drop (i + 8) (take count ns) = drop-drop 8 i (take count ns) in
+      rw (r, d) (omega arith)
 
 -- ## Bytes moved down
 

@@ -1,20 +1,24 @@
 // A pool of pages: frames of 16,384 bytes, one behind the other, and a list of their page numbers.
 use config::PAGE_LEN;
 ghost use mathlib.Core.Path.{_≡_};
-ghost use mathlib.Core.Bool.{false};
+ghost use mathlib.Core.Bool.{_||_};
+ghost use lib.Dec.{eqb};
 ghost use Prim.Native.Nat.{_+_, _*_, _≤_, _<_, min};
 ghost use lib.ListN.{length, take, drop};
 ghost use Rattle.memory.specs.Bytes.{overwrite};
 ghost use Rattle.update.specs.Pages.{pagesIn, placeOf};
 ghost use Rattle.update.specs.Frames.{pool, relaid, retained};
-ghost use Rattle.pool.specs.Pool.{stays, keptOne, walked};
+ghost use Rattle.pool.specs.Pool.{among, stays, keptOne, walked};
 
 // How many numbers are compared at once.
 const BLOCK: usize = 8;
 
+// Fewer numbers are found sooner one by one.
+const SHORT: usize = 16;
+
 // Whether the page was found before, or is this number.
 fn is_found(found: bool, number: u64, page: u64) -> bool
-    ensures { λ r. ⌜ (r ≡ false → (found ≡ false) × (number ≡ page → ⊥)) ⌝ }
+    ensures { λ r. ⌜ r ≡ (eqb number page || found) ⌝ }
 {
     if number == page {
         return true;
@@ -25,7 +29,7 @@ fn is_found(found: bool, number: u64, page: u64) -> bool
 // Whether the page is one of the block's numbers, from `i` on. The loop has no way out, so that the compiler compares several at once.
 fn is_in_block(numbers: &[u64], count: usize, i: usize, page: u64) -> bool
     requires { ⌜ i + 8 ≤ min count (length (now numbers)) ⌝ }
-    ensures { λ r. ⌜ (r ≡ false → i + placeOf (drop i (take count (now (numbers .entry)))) page ≡ i + 8 + placeOf (drop (i + 8) (take count (now (numbers .entry)))) page) ⌝ }
+    ensures { λ r. ⌜ r ≡ among (take 8 (drop i (take count (now (numbers .entry))))) page ⌝ }
 {
     let end = i + BLOCK;
     let mut k = i;
@@ -59,6 +63,9 @@ pub fn find(numbers: &[u64], count: usize, page: u64) -> usize
     ensures { λ r. ⌜ r ≡ placeOf (take count (now (numbers .entry))) page ⌝ }
 {
     let have = memory::least(count, numbers.len());
+    if have < SHORT {
+        return find_from(numbers, count, 0, page);
+    }
     let mut i = 0;
     while BLOCK <= have - i {
         if is_in_block(numbers, count, i, page) {

@@ -1,22 +1,22 @@
--- `fnv::are_zeros` meets its contract: as long as the sum is 0, the first `k` of the five bytes are zeros.
-use mathlib.Core.Path.{_≡_, refl, sym, ap, _∙_}
+-- `fnv::are_zeros` meets its contract: whether the first `k` of the five bytes are zeros, by their sum.
+use mathlib.Core.Path.{_≡_, refl}
 use Prim.Native.Nat.{ℕ, _+_, _*_, _-_, _≤_}
 use native.Mathlib.Omega.{arith}
-use lib.ListN.{length, take, drop, replicate}
+use lib.Dec.{eqb}
+use lib.ListN.{length, take, drop}
 use borrow.Author.Needs.{needs}
-use borrow.Author.Tests.{eqb-true}
-use Rattle.fnv.specs.Parts.{zeros-next}
+use Rattle.fnv.specs.Zeros.{allZeros, zeros-next}
 use Rattle.fnv.proofs.are_zeros.Statement.{statement}
 use Rattle.fnv.proofs.are_zeros.Tie as tie
 
 abbrev Inv-loop : tie.InvT-loop
-Inv-loop bytes at sum₀ k₀ sum k = (k ≤ 5) × ((sum ≤ 255 * k) × (sum ≡ 0 → take k (drop at bytes) ≡ replicate k 0))
+Inv-loop bytes at sum₀ k₀ sum k = (k ≤ 5) × ((sum ≤ 255 * k) × (eqb sum 0 ≡ allZeros (take k (drop at bytes))))
 
 abbrev μ-loop : tie.MeasureT-loop
 μ-loop bytes at sum₀ k₀ sum k = 5 - k
 
 loop-holds : tie.Need-loop-holds Inv-loop μ-loop
-loop-holds c = (search needs, (search needs, λ z. refl))
+loop-holds c = (search needs, (search needs, refl))
 
 add-wide : tie.Need-add-wide Inv-loop μ-loop
 add-wide c = search needs
@@ -39,17 +39,15 @@ loop-less c = search needs
 loop-again : tie.Need-loop-again Inv-loop μ-loop
 loop-again c =
     let x = c .before .before .before .loop in
-    let a = c .before .before .before .before .before .args in (
-      search needs,
-      (omega arith, λ z. zeros-next (a .at) (x .k) (a .bytes .now) (omega arith) (x .inv .1 .1 (omega arith)) (sym (c .wide .ensures .0) ∙ omega arith)),
-    )
+    let a = c .before .before .before .before .before .args in
+    (search needs, (omega arith, zeros-next (a .bytes .now) (a .at) (x .k) _ (x .sum) (omega arith) (c .wide .ensures .0) (x .inv .1 .1)))
 
 returns : tie.Need-returns Inv-loop μ-loop
 returns c =
     let x = c .before .loop in
     let a = c .before .before .before .args in
     let e : x .k ≡ 5 = omega arith in
-    λ t. rw e at (x .inv .1 .1 (eqb-true (x .sum) 0 t))
+    rw e at (x .inv .1 .1)
 
 pub are-zeros-spec : {M : Type 1} → statement M
 are-zeros-spec =

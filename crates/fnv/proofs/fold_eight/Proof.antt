@@ -2,11 +2,13 @@
 use mathlib.Core.Path.{_≡_, sym, ap, _∙_}
 use Prim.Native.Nat.{ℕ, _+_, _*_, _%_, _^_, _<_}
 use native.Mathlib.Omega.{arith}
-use lib.ListN.{take, drop}
+use mathlib.Core.Bool.{true}
+use mathlib.Core.List.{List}
+use lib.ListN.{length, take, drop, length-take, length-drop}
 use borrow.Author.Needs.{needs}
 use Rattle.fnv.specs.Fnv.{fold}
 use Rattle.fnv.specs.Parts.{fold-both}
-use Rattle.fnv.specs.Zeros.{five-zeros}
+use Rattle.fnv.specs.Zeros.{allZeros, five-zeros}
 use Rattle.fnv.proofs.fold_eight.Statement.{statement}
 use Rattle.fnv.proofs.fold_eight.Tie as tie
 
@@ -30,7 +32,10 @@ returns c =
     let a = c .before .before .before .before .before .args in
     let l = a .bytes .now in
     let three = c .before .before .before .fold-part in
-    c .times .ensures ∙ sym (five-zeros (three .result) (small (c .before .before .before))) ∙ ap (fold (three .result)) (sym (c .before .before .are-zeros .ensures (c .before .if1 .taken)))
+    let five : List ℕ = take 5 (drop (a .at + 3) l) in
+    let n : length five ≡ 5 = simp (length-take, length-drop) (omega arith) in
+    let zeros : allZeros five ≡ true = sym (c .before .before .are-zeros .ensures) ∙ c .before .if1 .taken in
+    c .times .ensures ∙ sym (five-zeros five (three .result) (small (c .before .before .before)) n zeros)
     ∙ ap (λ (h : ℕ). fold h (take 5 (drop (a .at + 3) l))) (three .ensures) ∙ fold-both (a .hash) l (a .at) 3 5
 
 add-fold-part : tie.Need-add-fold-part

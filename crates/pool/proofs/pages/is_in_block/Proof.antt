@@ -1,17 +1,17 @@
--- `pool::is_in_block` meets its contract: as long as the page was not found, its place is `k` and the place among the numbers from there on.
+-- `pool::is_in_block` meets its contract: the page was found where it is among the block's numbers before `k`.
 use mathlib.Core.Path.{_≡_, refl, _∙_}
-use mathlib.Core.Bool.{false}
 use Prim.Native.Nat.{_+_, _-_, _≤_, _<_, min}
+use native.Mathlib.Nat.{sub-self}
 use native.Mathlib.Omega.{arith}
 use lib.ListN.{length, take, drop}
 use borrow.Author.Needs.{needs}
-use Rattle.update.specs.Pages.{placeOf}
-use Rattle.pool.specs.PoolLaws.{place-miss}
+use Rattle.pool.specs.Pool.{among}
+use Rattle.pool.specs.PoolLaws.{block-more}
 use Rattle.pool.proofs.pages.is_in_block.Statement.{statement}
 use Rattle.pool.proofs.pages.is_in_block.Tie as tie
 
 abbrev Inv-loop : tie.InvT-loop
-Inv-loop numbers count i page end k₀ found₀ k found = (end ≡ i + 8) × ((k ≤ end) × (found ≡ false → i + placeOf (drop i (take count numbers)) page ≡ k + placeOf (drop k (take count numbers)) page))
+Inv-loop numbers count i page end k₀ found₀ k found = (end ≡ i + 8) × ((i ≤ k) × ((k ≤ end) × (found ≡ among (take (k - i) (drop i (take count numbers))) page)))
 
 abbrev μ-loop : tie.MeasureT-loop
 μ-loop numbers count i page end k₀ found₀ k found = end - k
@@ -20,7 +20,7 @@ add-end : tie.Need-add-end Inv-loop μ-loop
 add-end c = search needs
 
 loop-holds : tie.Need-loop-holds Inv-loop μ-loop
-loop-holds c = (refl, (omega arith, λ e. refl))
+loop-holds c = (refl, (omega arith, (omega arith, rw (sub-self _))))
 
 mul-is-found : tie.Need-mul-is-found Inv-loop μ-loop
 mul-is-found c = search needs
@@ -41,14 +41,13 @@ loop-again : tie.Need-loop-again Inv-loop μ-loop
 loop-again c =
     let l = c .before .before .before in
     let a = l .before .before .args in
-    let h : l .loop .k < min (a .count) (length (a .numbers .now)) = omega arith in
-    (refl, (omega arith, λ e. l .loop .inv .1 .1 (c .is-found .ensures e .0) ∙ place-miss (a .count) (a .numbers .now) (a .page) (l .loop .k) h (c .is-found .ensures e .1)))
+    (refl, (omega arith, (omega arith, c .is-found .ensures ∙ rw (l .loop .inv .1 .1 .1) (block-more (a .count) (a .numbers .now) (a .page) (a .i) (l .loop .k) (omega arith) (omega arith)))))
 
 returns : tie.Need-returns Inv-loop μ-loop
 returns c =
     let l = c .before in
-    let end : l .loop .k ≡ l .before .before .args .i + 8 = omega arith in
-    λ e. rw end at (l .loop .inv .1 .1 e)
+    let end : l .loop .k - l .before .before .args .i ≡ 8 = omega arith in
+    rw end at (l .loop .inv .1 .1 .1)
 
 pub is-in-block-spec : {M : Type 1} → statement M
 is-in-block-spec =
