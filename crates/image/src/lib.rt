@@ -67,10 +67,16 @@ fn fold_zeros(hash: u64, page: &mut [u8]) -> u64
     meta::fold_fnv1a64(hash, page)
 }
 
-// Taken on over the image's bytes from `at` on, as memory holds them.
+// Taken on over the image's bytes from `at` on, as memory holds them: where they lie in it below the size they are not copied first.
 fn fold_stored(hash: u64, page: &mut [u8], mem: &[u8], image: Image, at: u64) -> u64
     ensures { λ r. ⌜ r ≡ fold hash (stored image (now (mem .entry)) at (length (now (page .entry)))) ⌝ }
 {
+    let end = pool::reach(image.base, image.size, mem.len());
+    let from = pool::reach(image.base, at, end);
+    if page.len() <= end - from {
+        let to = from + page.len();
+        return meta::fold_fnv1a64(hash, &mem[from..to]);
+    }
     pool::read_stored(page, mem, image, at);
     meta::fold_fnv1a64(hash, page)
 }

@@ -12,6 +12,7 @@ pub use part::copy;
 pub use part::fill;
 pub use part::fill_at;
 pub use part::least;
+pub use part::load;
 pub use part::read;
 pub use part::write;
 ghost use mathlib.Core.Path.{_≡_};

@@ -33,8 +33,8 @@ pub fn fill_at(dst: &mut [u8], at: usize, n: usize)
     fill(&mut dst[at..end]);
 }
 
-// What moves at once. `memmove` moves so little by vector registers; longer parts some processors move by one instruction, which takes up to twenty times as
-// long where source and target lie close modulo 4,096.
+// What moves at once. A C library may move longer parts by one instruction, which on some processors takes twenty times as long where the target lies a few bytes
+// behind the source modulo 4,096.
 const PART: usize = 512;
 
 // All of `src` over the first bytes of `dst`. By way of an array, which overlaps neither slice: of the two loops the compiler makes one `memmove`, and of a
@@ -62,7 +62,8 @@ pub fn copy(dst: &mut [u8], src: &[u8])
     }
 }
 
-// `src` over the bytes of `dst` from `at` on. From slice to slice: a place of a large memory is seldom in the caches, and moves of 16 bytes are better there.
+// `src` over the bytes of `dst` from `at` on. From slice to slice: a place of a large memory is often not in the caches, where moves of 16 bytes are as good wherever
+// the slices lie.
 pub fn write(dst: &mut [u8], at: usize, src: &[u8])
     ensures { λ _. ⌜ now (dst .exit) ≡ overwrite at (now (src .entry)) (now (dst .entry)) ⌝ }
 {
@@ -82,5 +83,17 @@ pub fn read(dst: &mut [u8], src: &[u8], at: usize)
     let have = src.len() - from;
     if have < dst.len() {
         fill(&mut dst[have..]);
+    }
+}
+
+// The same from slice to slice, as `write`: for a frame, which is often not in the caches.
+pub fn load(dst: &mut [u8], src: &[u8], at: usize)
+    ensures { λ _. ⌜ now (dst .exit) ≡ resize (length (now (dst .entry))) (drop at (now (src .entry))) ⌝ }
+{
+    let start = least(at, src.len());
+    write(dst, 0, &src[start..]);
+    let rest = src.len() - start;
+    if rest < dst.len() {
+        fill(&mut dst[rest..]);
     }
 }

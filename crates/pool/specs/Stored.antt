@@ -1,12 +1,13 @@
 -- The image's bytes as memory holds them, where no run covers their page.
 use mathlib.Core.Path.{_≡_, refl, sym, ap, _∙_, subst}
-use Prim.Native.Nat.{ℕ, _+_, _-_, _/_, _<_, min}
+use Prim.Native.Nat.{ℕ, _+_, _-_, _/_, _≤_, _<_, min}
 use native.Mathlib.Omega.{arith}
 use mathlib.Core.Bool.{true, false}
 use mathlib.Core.List.{List}
 use lib.ListN.{length, take, drop, getD, length-take, length-drop}
 use lib.Seq.{getD-take, getD-drop, ext-getD}
 use Rattle.memory.specs.Bytes.{zeros, resize}
+use Rattle.memory.specs.Laws.{length-part, length-resize, resize-in}
 use Rattle.runs.specs.Sets.{covers}
 use Rattle.image_runs.specs.Image.{imageRuns}
 use Rattle.update.specs.declared.Image.{Image}
@@ -55,3 +56,14 @@ module _ (i : Image) (mem : List ℕ) (o n : ℕ) where
       let t : (from ≡ i .base + o) × (from + k < end) = starts end from (i .base + o) k g l in
       getD-drop from (take end mem) k 0 ∙ getD-take end mem (from + k) 0 (t .1) ∙ ap (λ (x : ℕ). getD mem (x + k) 0) (t .0)
       ∙ sym (getD-take (i .size - o) (drop (i .base + o) mem) k 0 (within k (end - from) _ _ l alike) ∙ getD-drop (i .base + o) mem k 0)))
+
+  -- all of it in memory, below the size
+  pub stored-inside : (end from : ℕ) → end ≡ min (i .base + i .size) (length mem) → from ≡ min (i .base + o) end → n ≤ end - from → stored i mem o n ≡ take n (drop from mem)
+  stored-inside end from e g le =
+      let few : length (take n (drop from mem)) ≡ n = length-part from n mem (omega arith) in
+      sym (stored-read end from e g)
+      ∙ ext-getD 0 _ _ (length-resize n (drop from (take end mem)) ∙ sym few)
+      (λ k h.
+      let l : k < n = subst (λ (x : ℕ). k < x) (length-resize n (drop from (take end mem))) h in
+      resize-in n (drop from (take end mem)) k l ∙ getD-drop from (take end mem) k 0 ∙ getD-take end mem (from + k) 0 (omega arith)
+      ∙ sym (getD-take n (drop from mem) k 0 l ∙ getD-drop from mem k 0))

@@ -109,6 +109,6 @@ pub fn load(
         memory::copy(frame, &clean[from..]);
         return retain_clean(c, clean, page, false);
     }
-    image::read_image(frame, mem, image, page * SQLITE_PAGE_SIZE);
+    image::load_image(frame, mem, image, page * SQLITE_PAGE_SIZE);
     c
 }

@@ -7,7 +7,7 @@ ghost use Rattle.update.specs.Image.{imagePart};
 ghost use Rattle.pool.specs.Stored.{stored};
 
 // a + b, or `most` where that is less: no sum wraps.
-fn reach(a: u64, b: u64, most: usize) -> usize
+pub fn reach(a: u64, b: u64, most: usize) -> usize
     ensures { λ r. ⌜ r ≡ min (a + b) most ⌝ }
 {
     let n = most as u64;
@@ -40,4 +40,20 @@ pub fn read_image(dst: &mut [u8], mem: &[u8], image: Image, offset: u64)
         return;
     }
     read_stored(dst, mem, image, offset);
+}
+
+// The same into a frame.
+pub(crate) fn load_image(frame: &mut [u8], mem: &[u8], image: Image, offset: u64)
+    ensures { λ _. ⌜ now (frame .exit) ≡ imagePart 16384 image (now (mem .entry)) offset (length (now (frame .entry))) ⌝ }
+{
+    let number = config::page_no(offset);
+    let count = image.runs;
+    if image_runs::image_covers(mem, count, number.0) {
+        memory::fill(frame);
+        return;
+    }
+    let len = mem.len();
+    let limit = reach(image.base, image.size, len);
+    let start = reach(image.base, offset, limit);
+    memory::load(frame, &mem[..limit], start);
 }

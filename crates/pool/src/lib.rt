@@ -8,6 +8,7 @@ pub use cache::insert;
 pub use cache::load;
 pub use cache::retain_clean;
 pub use cache::settle;
+pub use image::reach;
 pub use image::read_image;
 pub use image::read_stored;
 pub use pages::find;

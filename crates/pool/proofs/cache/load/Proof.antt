@@ -91,11 +91,11 @@ returns-2 c =
     ap (λ (f : List ℕ). loadOut (x .cache) f (x .clean)) frame
     ∙ load-hit 16384 8 (a .c) (s .pre .0) l (imageIn 16384 (a .image) (a .mem .now)) (covers (runsIn (a .recorded) (a .«record» .now)) (a .page)) (a .page) x (sym (c .before .before .before .before .before .before .before .before .before .before .before .before .before .before .before .covered .ensures) ∙ c .before .before .before .before .before .before .before .before .before .before .before .before .before .before .if1 .left) (omega arith) (omega (arith, c .before .before .before .before .before .before .before .before .before .before .if2 .taken)) (c .before .before .retain-clean .ensures)
 
-mul-read-image : tie.Need-mul-read-image
-mul-read-image c = search needs
+mul-load-image : tie.Need-mul-load-image
+mul-load-image c = search needs
 
-read-image-requires : tie.Need-read-image-requires
-read-image-requires c κs = search needs
+load-image-requires : tie.Need-load-image-requires
+load-image-requires c κs = search needs
 
 same-length-4 : tie.Need-same-length-4
 same-length-4 c = search needs
@@ -106,8 +106,8 @@ returns-3 c =
     let a = s .args in
     let l : List ℕ = a .clean .now in
     let found : c .before .before .before .before .before .find .result ≡ placeOf (cached 16384 8 (a .c)) (a .page) = place (c .before .before .before .before .before) in
-    let image : c .before .before .read-image .last .0 ≡ imagePage 16384 (imageIn 16384 (a .image) (a .mem .now)) (a .page) =
-    rw (s .pre .2) at (c .before .before .read-image .ensures) ∙ page-is 16384 (omega arith) (a .image) (a .mem .now) (a .page) in
+    let image : c .before .before .load-image .last .0 ≡ imagePage 16384 (imageIn 16384 (a .image) (a .mem .now)) (a .page) =
+    rw (s .pre .2) at (c .before .before .load-image .ensures) ∙ page-is 16384 (omega arith) (a .image) (a .mem .now) (a .page) in
     rw image (load-miss 16384 8 (a .c) (s .pre .0) l (imageIn 16384 (a .image) (a .mem .now)) (covers (runsIn (a .recorded) (a .«record» .now)) (a .page)) (a .page) (sym (c .before .before .before .before .before .before .before .before .before .covered .ensures) ∙ c .before .before .before .before .before .before .before .before .if1 .left) (omega arith) (s .pre .1) (omega (arith, c .before .before .before .before .if2 .left)))
 
 pub load-spec : {M : Type 1} → statement M
@@ -129,7 +129,7 @@ load-spec =
     same-length-2
     same-length-3
     returns-2
-    mul-read-image
-    read-image-requires
+    mul-load-image
+    load-image-requires
     same-length-4
     returns-3)
