@@ -17,6 +17,10 @@ use Rattle.pool.specs.Pool.{among, stays, keptOne, walked, pushes, pushe
 use Rattle.pool.specs.declared.record.Pushed.the-variants.{Entries, Full}
 use Rattle.update.specs.ListLaws.{overwrite-self}
 
+-- a part and the next element
+part-more : (from k : ℕ) (xs : List ℕ) → from + k < length xs → take (suc k) (drop from xs) ≡ take k (drop from xs) ++ (getD xs (from + k) 0 ∷ [])
+part-more from k xs h = take-suc (drop from xs) k 0 (simp length-drop (omega arith)) ∙ rw (getD-drop from xs k 0)
+
 -- ## A search among the numbers
 
 module _ (count : ℕ) (ns : List ℕ) (page i : ℕ) (h : i < min count (length ns)) where
@@ -60,8 +64,7 @@ module _ (count : ℕ) (ns : List ℕ) (page i : ℕ) where
       let part : List ℕ = drop i (take count ns) in
       let at : i + (k - i) ≡ k = omega arith in
       let more : k + 1 - i ≡ suc (k - i) = omega arith in
-      let last : getD part (k - i) 0 ≡ getD ns k 0 = getD-drop i (take count ns) (k - i) 0 ∙ rw at (getD-take count ns k 0 (omega arith)) in
-      let e : take (suc (k - i)) part ≡ take (k - i) part ++ (getD ns k 0 ∷ []) = take-suc part (k - i) 0 (simp (length-drop, length-take) (omega arith)) ∙ rw last in
+      let e : take (suc (k - i)) part ≡ take (k - i) part ++ (getD ns k 0 ∷ []) = part-more i (k - i) (take count ns) (simp length-take (omega arith)) ∙ rw (at, getD-take count ns k 0 (omega arith)) in
       rw (more, e) (sym (among-more (take (k - i) part) (getD ns k 0) page))
 
   -- the block has not the page
@@ -81,7 +84,7 @@ move-more to from k fs h f =
     let new : List ℕ = take k (drop from fs) in
     let n : length new ≡ k = length-part from k fs (omega arith) in
     let m : length (overwrite to new fs) ≡ length fs = length-overwrite to new fs in
-    let e : take (k + 1) (drop from fs) ≡ new ++ (getD fs (from + k) 0 ∷ []) = rw (add-one k) (take-suc (drop from fs) k 0 (simp length-drop (omega arith)) ∙ rw (getD-drop from fs k 0)) in
+    let e : take (k + 1) (drop from fs) ≡ new ++ (getD fs (from + k) 0 ∷ []) = rw (add-one k) (part-more from k fs (omega arith)) in
     let r : getD (overwrite to new fs) (from + k) 0 ≡ getD fs (from + k) 0 = overwrite-hi to new fs (from + k) (omega arith) in
     rw (r, e) (set-overwrite (to + k) (getD fs (from + k) 0) (overwrite to new fs) (omega arith)
     ∙ (rw n at (overwrite-join to new (getD fs (from + k) 0 ∷ []) fs)))

@@ -13,7 +13,7 @@ ghost use Rattle.pool.specs.Pool.{among, stays, keptOne, walked};
 // How many numbers are compared at once.
 const BLOCK: usize = 8;
 
-// Fewer numbers are found sooner one by one.
+// Fewer numbers are compared one by one.
 const SHORT: usize = 16;
 
 // Whether the page was found before, or is this number.
