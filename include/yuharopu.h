@@ -15,8 +15,8 @@ extern "C" {
 #endif
 
 /* The bytes of an encoded superblock, and the numbers of one in `fields`: magic (read as a little-endian number),
- * version, page size, then the eighteen 64-bit fields in the order of their offsets: db_size, schema_version,
- * last_tx_id, flags, checksum, import_expected_checksum, import_written_until, import_total_size,
+ * version, page size, then the eighteen 64-bit fields, of which field k lies at byte 16 + 8k, k from 0 on: db_size,
+ * schema_version, last_tx_id, flags, checksum, import_expected_checksum, import_written_until, import_total_size,
  * import_base_offset, checksum_refresh_offset, checksum_refresh_hash, checksum_refresh_tx_id, db_base_offset,
  * page_table_offset, page_count, layout_version, zero_extent_count, meta_checksum. */
 #define YUHAROPU_SUPERBLOCK_BYTES 16544

@@ -144,7 +144,7 @@ fn copy_runs(out: &mut [u64], mem: &[u8], count: usize) -> usize
 pub fn restore(b: Superblock, mem: &mut [u8]) -> Superblock
     ensures { λ r. ⌜ outcome r (now (mem .exit)) ≡ outcome (resealed b (now (mem .entry))) (restored b (now (mem .entry))) ⌝ }
 {
-    let mut runs = [0u64; 2048];
+    let mut runs = [0u64; 2 * Superblock::MAX_ZERO_EXTENTS as usize];
     let n = copy_runs(&mut runs, mem, b.zero_extent_count as usize);
     b.store(&runs[..n], mem)
 }

@@ -1,6 +1,7 @@
 -- The superblock: its fields, its bytes and its checksum.
 use mathlib.Core.Path.{_≡_, refl}
 use Prim.Native.Nat.{ℕ, _+_, _*_, _%_, min}
+use native.Mathlib.Omega.{arith}
 use mathlib.Core.List.{List, [], _∷_, _++_}
 use lib.ListN.{getD, take, drop}
 use Rattle.memory.specs.Bytes.{overwrite, resize}
@@ -12,7 +13,7 @@ use Rattle.fnv.specs.Fnv.{fnv1a64}
 abbrev pub magic : ℕ
 magic = de 8 (73 ∷ 67 ∷ 83 ∷ 81 ∷ 76 ∷ 73 ∷ 84 ∷ 69 ∷ [])
 
--- 01: "then eighteen 64-bit fields. Their offsets stand in one constant table, in the order of `encode`"
+-- 01: "then eighteen 64-bit fields", "in the order of `encode`"
 abbrev pub otherFields : Superblock → List ℕ
 otherFields b =
     b .«db_size» ∷ b .«schema_version» ∷ b .«last_tx_id» ∷ b .flags ∷ b .checksum ∷ b .«import_expected_checksum» ∷ b .«import_written_until» ∷ b .«import_total_size» ∷ b .«import_base_offset» ∷ b .«checksum_refresh_offset» ∷ b .«checksum_refresh_hash» ∷ b .«checksum_refresh_tx_id» ∷ b .«db_base_offset» ∷ b .«page_table_offset» ∷ b .«page_count» ∷ b .«layout_version» ∷ b .«zero_extent_count» ∷ []
@@ -46,13 +47,22 @@ ofFields m v p f = record {
   «meta_checksum» = getD f 17 0;
 }
 
--- field k lies at this byte offset: 16, 24, .. 152
+-- 02, W-204: "Its eighteen 64-bit fields lie at 16 + 8k for k from 0 to 17."
 unfoldable pub fieldOffset : ℕ → ℕ
-fieldOffset k = 16 + k * 8
+fieldOffset k = 16 + 8 * k
+
+-- the last is the checksum
+abbrev pub checksumOffset : ℕ
+checksumOffset = fieldOffset 17
 
 pub offset-is : (k : ℕ) → fieldOffset k ≡ 16 + k * 8
 unfolding fieldOffset
-offset-is k = refl
+offset-is k = omega arith
+
+-- 01: "From 160 follow at most 1,024 zero runs": behind the eighteen fields
+pub runs-begin : fieldOffset 18 ≡ 160
+unfolding fieldOffset
+runs-begin = refl
 
 -- 01: "version 8 and page size as 32 bits at 8 and 12, then eighteen 64-bit fields"
 unfoldable pub headerOf : ℕ → ℕ → ℕ → List ℕ → List ℕ

@@ -1,4 +1,3 @@
-pub mod Table
 pub mod Runs
 pub mod Block
 pub mod BlockLaws

@@ -44,54 +44,25 @@ ghost use Rattle.meta.specs.Block.{storeIn};
 ghost use Rattle.meta.specs.Block.{numbersOf, ofNumbers};
 ghost use Rattle.meta.specs.Stored.{outcome};
 
-// Where each 64-bit field lies, in the order of `fields`.
-const FIELD_OFFSETS: [usize; 18] = [
-    16,
-    24,
-    32,
-    40,
-    48,
-    56,
-    64,
-    72,
-    80,
-    88,
-    96,
-    104,
-    112,
-    120,
-    128,
-    136,
-    144,
-    152,
-];
-
-fn field_offset(k: usize) -> usize
-    requires { ⌜ k < 18 ⌝ }
-    ensures { λ r. ⌜ r ≡ fieldOffset k ⌝ }
-{
-    FIELD_OFFSETS[k]
-}
-
 fn write_fields(out: &mut [u8], fields: &[u64])
     requires { ⌜ (160 ≤ length (now out)) × (length (now fields) ≡ 18) ⌝ }
     ensures { λ _. ⌜ now (out .exit) ≡ overwrite 16 (words (now (fields .entry))) (now (out .entry)) ⌝ }
 {
     let mut k: usize = 0;
-    while k < 18 {
-        write_word(out, field_offset(k), fields[k]);
+    while k < Superblock::FIELDS {
+        write_word(out, Superblock::field_offset(k), fields[k]);
         k += 1;
     }
 }
 
-fn read_fields(bytes: &[u8]) -> [u64; 18]
+fn read_fields(bytes: &[u8]) -> [u64; Superblock::FIELDS]
     requires { ⌜ 160 ≤ length (now bytes) ⌝ }
     ensures { λ r. ⌜ r ≡ fieldsIn (now (bytes .entry)) ⌝ }
 {
-    let mut out = [0u64; 18];
+    let mut out = [0u64; Superblock::FIELDS];
     let mut k: usize = 0;
-    while k < 18 {
-        out[k] = read_word(bytes, field_offset(k));
+    while k < Superblock::FIELDS {
+        out[k] = read_word(bytes, Superblock::field_offset(k));
         k += 1;
     }
     out
@@ -125,9 +96,19 @@ impl Superblock {
 
     pub const MAX_ZERO_EXTENTS: u64 = 1_024;
 
-    pub const EXTENTS_OFFSET: usize = 160;
+    // The 64-bit fields; the last is the block's own checksum.
+    pub const FIELDS: usize = 18;
 
-    pub const ENCODED_LEN: usize = 16_544;
+    pub const META_CHECKSUM: usize = 17;
+
+    // With magic, version and page size.
+    pub const NUMBERS: usize = 3 + Superblock::FIELDS;
+
+    // The runs follow the fields.
+    pub const EXTENTS_OFFSET: usize = 16 + 8 * Superblock::FIELDS;
+
+    pub const ENCODED_LEN: usize = Superblock::EXTENTS_OFFSET
+        + 16 * Superblock::MAX_ZERO_EXTENTS as usize;
 
     pub const FLAG_IMPORTING: u64 = 1;
 
@@ -135,7 +116,15 @@ impl Superblock {
 
     pub const FLAG_CHECKSUM_REFRESHING: u64 = 4;
 
-    fn fields(self) -> [u64; 18]
+    // Where field `k` lies, in the order of `fields`.
+    pub fn field_offset(k: usize) -> usize
+        requires { ⌜ k < 18 ⌝ }
+        ensures { λ r. ⌜ r ≡ fieldOffset k ⌝ }
+    {
+        16 + 8 * k
+    }
+
+    fn fields(self) -> [u64; Superblock::FIELDS]
         ensures { λ r. ⌜ r ≡ fieldsOf self ⌝ }
     {
         [
@@ -231,7 +220,8 @@ impl Superblock {
         blank.encode(runs, out);
         let n = blank.encoded_len();
         let checksum = fnv1a64(&out[..n]);
-        write_word(out, 152, checksum);
+        let at = Superblock::field_offset(Superblock::META_CHECKSUM);
+        write_word(out, at, checksum);
         self.sealed_by(checksum)
     }
 
@@ -279,7 +269,7 @@ impl Superblock {
     }
 
     // The block as a list of numbers: magic, version, page size, then the fields.
-    pub fn numbers(self) -> [u64; 21]
+    pub fn numbers(self) -> [u64; Superblock::NUMBERS]
         ensures { λ r. ⌜ r ≡ numbersOf self ⌝ }
     {
         [

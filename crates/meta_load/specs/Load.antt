@@ -12,7 +12,7 @@ use Rattle.meta_load.specs.declared.Loaded.{Loaded}
 use Rattle.meta_load.specs.declared.Loaded.the-variants.{Block, Refused}
 use Rattle.fnv.specs.Fnv.{fnv1a64}
 use Rattle.meta.specs.Runs.{runsIn, normalized}
-use Rattle.meta.specs.Block.{magic, decode, encodedLen}
+use Rattle.meta.specs.Block.{magic, decode, encodedLen, checksumOffset}
 
 -- the runs of the block in some bytes
 unfoldable pub blockRuns : List ℕ → List ZeroExtent
@@ -20,7 +20,7 @@ blockRuns bs = runsIn (decode bs .«zero_extent_count») (drop 160 bs)
 
 -- 01: "how many of them are stored and hashed, with the checksum field as 0"
 unfoldable pub checksumIn : List ℕ → ℕ
-checksumIn bs = fnv1a64 (overwrite 152 (zeros 8) (take (encodedLen (decode bs)) bs))
+checksumIn bs = fnv1a64 (overwrite checksumOffset (zeros 8) (take (encodedLen (decode bs)) bs))
 
 abbrev pub pick : Bool → Loaded → Loaded → Loaded
 pick true a b = a

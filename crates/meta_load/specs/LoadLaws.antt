@@ -13,19 +13,19 @@ use Rattle.config.specs.declared.refusal.Refusal.the-variants.{ForeignStableMem
 use Rattle.meta.specs.declared.superblock.Superblock.{Superblock}
 use Rattle.meta_load.specs.declared.Loaded.the-variants.{Block, Refused}
 use Rattle.meta.specs.Runs.{runsIn, runsIn-alike, normalized}
-use Rattle.meta.specs.Block.{magic, decode, encodedLen}
+use Rattle.meta.specs.Block.{magic, decode, encodedLen, checksumOffset, offset-is}
 use Rattle.meta_load.specs.Load.{blockRuns, checksumIn, pick, judge, load}
 use Rattle.fnv.specs.Fnv.{fold, fold-join, basis, fnv1a64, fnv-is}
 
 -- the hash with the checksum field as 0, in three parts
 pub checksum-parts : (n : ℕ) (bs z : List ℕ) → 160 ≤ n → n ≤ length bs → z ≡ zeros 8
-    → fold (fold (fold basis (take 152 bs)) z) (take (n - 160) (drop 160 bs)) ≡ fnv1a64 (overwrite 152 (zeros 8) (take n bs))
+    → fold (fold (fold basis (take checksumOffset bs)) z) (take (n - 160) (drop 160 bs)) ≡ fnv1a64 (overwrite checksumOffset (zeros 8) (take n bs))
 checksum-parts n bs z lo hi e =
-    let t : take 152 (take n bs) ≡ take 152 bs = take-take 152 n bs (omega arith) in
+    let t : take checksumOffset (take n bs) ≡ take checksumOffset bs = take-take checksumOffset n bs (omega (arith, offset-is 17)) in
     let l : length (take n bs) ≡ n = length-take n bs ∙ omega arith in
-    let k : 152 + length (zeros 8) ≡ 160 = omega (arith, length-zeros 8) in
+    let k : checksumOffset + length (zeros 8) ≡ 160 = omega (arith, length-zeros 8, offset-is 17) in
     let d : drop 160 (take n bs) ≡ take (n - 160) (drop 160 bs) = drop-take 160 n bs in
-    rw (fnv-is, overwrite-mid 152 (zeros 8) (take n bs) (omega arith), k, t, d, e, fold-join, fold-join)
+    rw (fnv-is, overwrite-mid checksumOffset (zeros 8) (take n bs) (omega (arith, offset-is 17)), k, t, d, e, fold-join, fold-join)
 
 -- a list of runs needs no byte past its last run
 pub runsIn-take : (n : ℕ) (l : List ℕ) → runsIn n (take (n * 16) l) ≡ runsIn n l
@@ -67,9 +67,9 @@ module _ (bs : List ℕ) (b : Superblock) (is : b ≡ decode bs) where
   load-is = ap (λ (x : Superblock). judge x (checksumIn bs) (normalized (blockRuns bs))) (sym is)
 
   module _ (n : ℕ) (len : n ≡ encodedLen b) where
-    pub sum-is : fnv1a64 (overwrite 152 (zeros 8) (take n bs)) ≡ checksumIn bs
+    pub sum-is : fnv1a64 (overwrite checksumOffset (zeros 8) (take n bs)) ≡ checksumIn bs
     unfolding checksumIn
-    sum-is = ap (λ (k : ℕ). fnv1a64 (overwrite 152 (zeros 8) (take k bs))) (len ∙ ap encodedLen is)
+    sum-is = ap (λ (k : ℕ). fnv1a64 (overwrite checksumOffset (zeros 8) (take k bs))) (len ∙ ap encodedLen is)
 
     pub runs-are : 16544 ≤ length bs → b .«zero_extent_count» ≤ 1024
         → runsIn (length (take (n - 160) (drop 160 bs)) / 16) (take (n - 160) (drop 160 bs)) ≡ blockRuns bs

@@ -6,17 +6,16 @@ use Prim.Native.Nat.{ℕ, zero, suc, _+_, _-_, _*_, _≤_, _<_, min}
 use native.Mathlib.Nat.{mod-lt}
 use native.Mathlib.Omega.{arith}
 use lib.ListN.{length, getD, take, drop, length-take, length-drop}
-use lib.Seq.{getD-take, getD-drop, drop-drop, drop-at, take-add}
+use lib.Seq.{ext-getD, getD-take, getD-drop, drop-drop, drop-at, take-add}
 use Rattle.memory.specs.Bytes.{zeros, overwrite, resize}
 use Rattle.memory.specs.Laws.{append-at, resize-in, overwrite-in, length-zeros, take-overwrite, take-resize, overwrite-take}
 use Rattle.meta.specs.declared.superblock.Superblock.{Superblock}
 use Rattle.meta_load.specs.declared.Loaded.the-variants.{Block}
-use Rattle.meta.specs.Table.{spelled}
 use Rattle.words.specs.Words.{le, de, de-le, de-alike, le-de, length-le, word, words, wordAt, wordsIn, wordAt-word, wordAt-drop, wordAt-alike, length-word, Bytes, bytes-drop}
 use Rattle.fnv.specs.Fnv.{step, fold, fnv1a64, basis}
 use Rattle.meta.specs.Runs.{run, runsOf, runsIn, runsIn-alike, normalized}
-use Rattle.meta.specs.Block.{magic, fieldsOf, otherFields, ofFields, fieldsIn, headerOf, header, blockBytes, encode, decode, encodedLen, prefix, sealedBy, checksumOf, seal, storeIn}
-use Rattle.meta.specs.BlockLaws.{length-fieldsIn, length-headerOf, length-encode, encodedLen-lo, encodedLen-hi, sealed-len, reseal}
+use Rattle.meta.specs.Block.{magic, fieldsOf, otherFields, ofFields, fieldsIn, checksumOffset, offset-is, headerOf, header, blockBytes, encode, decode, encodedLen, prefix, sealedBy, checksumOf, seal, storeIn}
+use Rattle.meta.specs.BlockLaws.{length-fieldsIn, length-header, length-encode, encodedLen-lo, encodedLen-hi, sealed-len, reseal}
 use Rattle.meta_load.specs.Load.{blockRuns, checksumIn, load}
 use Rattle.meta_load.specs.LoadLaws.{judge-runs, load-is}
 
@@ -68,7 +67,7 @@ decode-alike a b h =
     let m : wordAt 0 a ≡ wordAt 0 b = wordAt-alike 0 a b (λ i lo hi. h i (omega arith)) in
     let v : de 4 (drop 8 a) ≡ de 4 (drop 8 b) = de-alike 4 (drop 8 a) (drop 8 b) (part 8 4 (omega arith)) in
     let p : de 4 (drop 12 a) ≡ de 4 (drop 12 b) = de-alike 4 (drop 12 a) (drop 12 b) (part 12 4 (omega arith)) in
-    let f : wordsIn 18 (drop 16 a) ≡ wordsIn 18 (drop 16 b) = words-alike 18 (drop 16 a) (drop 16 b) (part 16 144 (omega arith)) in
+    let f : wordsIn 18 (drop 16 a) ≡ wordsIn 18 (drop 16 b) = words-alike 18 (drop 16 a) (drop 16 b) (part 16 (18 * 8) (omega arith)) in
     λ i. ofFields (m i) (v i) (p i) (f i)
   where
     words-alike : (n : ℕ) (a b : List ℕ) → ((i : ℕ) → i < n * 8 → getD a i 0 ≡ getD b i 0) → wordsIn n a ≡ wordsIn n b
@@ -79,10 +78,6 @@ decode-alike a b h =
         λ j. x j ∷ r j
 
 module _ (b : Superblock) (runs : List ℕ) (fits : Fits b) where
-  long : length (header b) ≡ 160
-  unfolding header
-  long = length-headerOf (b .magic) (b .version) (b .«sqlite_page_size») (fieldsOf b) refl
-
   pub decode-encode : decode (encode b runs) ≡ b
   unfolding encode blockBytes header
   decode-encode =
@@ -110,17 +105,13 @@ runs-back (suc n) (a ∷ b ∷ ns) t l w =
     λ i. run (x i) (y i) ∷ r i
 
 module _ (b : Superblock) (runs : List ℕ) where
-  header-long : length (header b) ≡ 160
-  unfolding header
-  header-long = length-headerOf (b .magic) (b .version) (b .«sqlite_page_size») (fieldsOf b) refl
-
   pub runs-encode : (n : ℕ) → n ≤ 1024 → length runs ≡ n * 2 → Wide runs → runsIn n (drop 160 (encode b runs)) ≡ runsOf runs
   unfolding encode blockBytes
   runs-encode n few l w =
       runsIn-alike n (drop 160 (encode b runs)) (words runs ++ []) (λ i h.
       getD-drop 160 (encode b runs) i 0 ∙ resize-in 16544 (header b ++ words runs) (160 + i) (omega arith)
-      ∙ append-at (header b) (words runs) (160 + i) (omega (arith, header-long))
-      ∙ (let e : 160 + i - length (header b) ≡ i = omega (arith, header-long) in ap (λ (k : ℕ). getD (words runs) k 0) e)
+      ∙ append-at (header b) (words runs) (160 + i) (omega (arith, length-header b))
+      ∙ (let e : 160 + i - length (header b) ≡ i = omega (arith, length-header b) in ap (λ (k : ℕ). getD (words runs) k 0) e)
       ∙ ap (λ (t : List ℕ). getD t i 0) (sym (append-nil (words runs))))
       ∙ runs-back n runs [] l w
 
@@ -140,16 +131,34 @@ abbrev pub numbersIn : List ℕ → List ℕ
 numbersIn bs = wordsIn (min (decode bs .«zero_extent_count») 1024 * 2) (drop 160 bs)
 
 -- parts of a list, one behind the other
-header-parts : (bs : List ℕ) (m v p : ℕ) (f : List ℕ) → word m ≡ take 8 bs → le 4 v ≡ take 4 (drop 8 bs) → le 4 p ≡ take 4 (drop 12 bs) → words f ≡ take 144 (drop 16 bs)
-    → headerOf m v p f ≡ take 160 bs
+header-parts : (n : ℕ) (bs : List ℕ) (m v p : ℕ) (f : List ℕ) → word m ≡ take 8 bs → le 4 v ≡ take 4 (drop 8 bs) → le 4 p ≡ take 4 (drop 12 bs) → words f ≡ take n (drop 16 bs)
+    → headerOf m v p f ≡ take (8 + (4 + (4 + n))) bs
 unfolding headerOf
-header-parts bs m v p f a b c d =
-    let two : take 4 (drop 12 bs) ++ take 144 (drop 16 bs) ≡ take 148 (drop 12 bs) =
-    ap (λ (l : List ℕ). take 4 (drop 12 bs) ++ take 144 l) (sym (drop-drop 4 12 bs)) ∙ sym (take-add 4 144 (drop 12 bs)) in
-    let three : take 4 (drop 8 bs) ++ take 148 (drop 12 bs) ≡ take 152 (drop 8 bs) =
-    ap (λ (l : List ℕ). take 4 (drop 8 bs) ++ take 148 l) (sym (drop-drop 4 8 bs)) ∙ sym (take-add 4 148 (drop 8 bs)) in
+header-parts n bs m v p f a b c d =
+    let two : take 4 (drop 12 bs) ++ take n (drop 16 bs) ≡ take (4 + n) (drop 12 bs) =
+    ap (λ (l : List ℕ). take 4 (drop 12 bs) ++ take n l) (sym (drop-drop 4 12 bs)) ∙ sym (take-add 4 n (drop 12 bs)) in
+    let three : take 4 (drop 8 bs) ++ take (4 + n) (drop 12 bs) ≡ take (4 + (4 + n)) (drop 8 bs) =
+    ap (λ (l : List ℕ). take 4 (drop 8 bs) ++ take (4 + n) l) (sym (drop-drop 4 8 bs)) ∙ sym (take-add 4 (4 + n) (drop 8 bs)) in
     (λ i. a i ++ (b i ++ (c i ++ d i))) ∙ ap (λ (l : List ℕ). take 8 bs ++ (take 4 (drop 8 bs) ++ l)) two
-    ∙ ap (λ (l : List ℕ). take 8 bs ++ l) three ∙ sym (take-add 8 152 bs)
+    ∙ ap (λ (l : List ℕ). take 8 bs ++ l) three ∙ sym (take-add 8 (4 + (4 + n)) bs)
+
+-- f k, f (k + 1), .. : n values
+abbrev values : (ℕ → ℕ) → ℕ → ℕ → List ℕ
+values f k zero = []
+values f k (suc n) = f k ∷ values f (suc k) n
+
+-- a list is the list of its elements
+spelled : (l : List ℕ) (n : ℕ) → length l ≡ n → values (λ k. getD l k 0) 0 n ≡ l
+spelled l n e = ext-getD 0 _ _ (length-values 0 n ∙ sym e) (λ i h. value-at 0 n i (omega (arith, length-values 0 n)) ∙ ap (λ (j : ℕ). getD l j 0) {x = 0 + i} {y = i} (omega arith))
+  where
+    length-values : (k n : ℕ) → length (values (λ j. getD l j 0) k n) ≡ n
+    length-values k zero = refl
+    length-values k (suc n) = ap suc (length-values (suc k) n)
+
+    value-at : (k n i : ℕ) → i < n → getD (values (λ j. getD l j 0) k n) i 0 ≡ getD l (k + i) 0
+    value-at k zero i h = absurd (omega arith)
+    value-at k (suc n) zero h = ap (λ (j : ℕ). getD l j 0) (omega arith)
+    value-at k (suc n) (suc i) h = value-at (suc k) n i (omega arith) ∙ ap (λ (j : ℕ). getD l j 0) (omega arith)
 
 module _ (bs : List ℕ) (bytes : Bytes bs) (len : length bs ≡ 16544) where
   magic-decode : word (decode bs .magic) ≡ take 8 bs
@@ -164,14 +173,14 @@ module _ (bs : List ℕ) (bytes : Bytes bs) (len : length bs ≡ 16544) where
   unfolding decode
   size-decode = le-de 4 (drop 12 bs) (bytes-drop 12 bs bytes) (omega (arith, length-drop 12 bs))
 
-  fields-decode : words (fieldsOf (decode bs)) ≡ take 144 (drop 16 bs)
+  fields-decode : words (fieldsOf (decode bs)) ≡ take (18 * 8) (drop 16 bs)
   unfolding decode
   fields-decode =
       ap words (spelled (fieldsIn bs) 18 (length-fieldsIn bs)) ∙ (unfold fieldsIn in le-numbers 18 (drop 16 bs) (bytes-drop 16 bs bytes) (omega (arith, length-drop 16 bs)))
 
   header-decode : header (decode bs) ≡ take 160 bs
   unfolding header
-  header-decode = header-parts bs (decode bs .magic) (decode bs .version) (decode bs .«sqlite_page_size») (fieldsOf (decode bs))
+  header-decode = header-parts (18 * 8) bs (decode bs .magic) (decode bs .version) (decode bs .«sqlite_page_size») (fieldsOf (decode bs))
       magic-decode version-decode size-decode fields-decode
 
   pub encode-decode : prefix (decode bs) (numbersIn bs) ≡ take (encodedLen (decode bs)) bs
@@ -214,7 +223,7 @@ module _ (b : Superblock) (runs : List ℕ) (fits : Fits b) where
       last-lt (z ∷ l) x y h w zero = w 0
       last-lt (z ∷ l) x y h w (suc k) = last-lt l x y h (λ j. w (suc j)) k
 
-module _ (b : Superblock) (runs mem : List ℕ) (fits : Fits b) (lent : 16544 ≤ length mem) where
+module _ (b : Superblock) (runs : List ℕ) where
   seal-len : encodedLen (seal b runs) ≡ encodedLen b
   unfolding seal
   seal-len = sealed-len b runs (checksumOf b runs)
@@ -224,17 +233,18 @@ module _ (b : Superblock) (runs mem : List ℕ) (fits : Fits b) (lent : 16544 �
   prefix-long = length-take (encodedLen (seal b runs)) (encode (seal b runs) runs) ∙ omega (arith, seal-len, encodedLen-hi b runs, length-encode (seal b runs) runs)
 
   -- the stored bytes are those of the block
-  stored-at : (i : ℕ) → i < encodedLen b → getD (storeIn b runs mem) i 0 ≡ getD (encode (seal b runs) runs) i 0
+  pub stored-at : (mem : List ℕ) → 16544 ≤ length mem → (i : ℕ) → i < encodedLen b → getD (storeIn b runs mem) i 0 ≡ getD (encode (seal b runs) runs) i 0
   unfolding storeIn prefix
-  stored-at i h =
+  stored-at mem lent i h =
       let p : List ℕ = prefix (seal b runs) runs in
       overwrite-in 0 p mem i (omega arith) (omega (arith, prefix-long)) (omega (arith, encodedLen-hi b runs))
       ∙ ap (λ (k : ℕ). getD p k 0) {x = i - 0} {y = i} (omega arith)
       ∙ getD-take (encodedLen (seal b runs)) (encode (seal b runs) runs) i 0 (omega (arith, seal-len))
 
+module _ (b : Superblock) (runs mem : List ℕ) (fits : Fits b) (lent : 16544 ≤ length mem) where
   pub decode-stored : decode (storeIn b runs mem) ≡ seal b runs
   decode-stored =
-      decode-alike (storeIn b runs mem) (encode (seal b runs) runs) (λ i h. stored-at i (omega (arith, encodedLen-lo b runs)))
+      decode-alike (storeIn b runs mem) (encode (seal b runs) runs) (λ i h. stored-at b runs mem lent i (omega (arith, encodedLen-lo b runs)))
       ∙ decode-encode (seal b runs) runs (seal-fits b runs fits)
 
   zero-word : zeros 8 ≡ word 0
@@ -242,18 +252,18 @@ module _ (b : Superblock) (runs mem : List ℕ) (fits : Fits b) (lent : 16544 �
   zero-word = refl
 
   -- with the checksum field as 0 they are the bytes that were hashed
-  blank : overwrite 152 (zeros 8) (prefix (seal b runs) runs) ≡ prefix (sealedBy 0 b) runs
+  blank : overwrite checksumOffset (zeros 8) (prefix (seal b runs) runs) ≡ prefix (sealedBy 0 b) runs
   unfolding prefix seal
   blank =
       let n : ℕ = encodedLen (sealedBy (checksumOf b runs) b) in
-      overwrite-take 152 n (zeros 8) (encode (sealedBy (checksumOf b runs) b) runs) (omega (arith, length-zeros 8, encodedLen-lo (sealedBy (checksumOf b runs) b) runs))
-      ∙ ap (λ (z : List ℕ). take n (overwrite 152 z (encode (sealedBy (checksumOf b runs) b) runs))) zero-word
+      overwrite-take checksumOffset n (zeros 8) (encode (sealedBy (checksumOf b runs) b) runs) (omega (arith, length-zeros 8, offset-is 17, encodedLen-lo (sealedBy (checksumOf b runs) b) runs))
+      ∙ ap (λ (z : List ℕ). take n (overwrite checksumOffset z (encode (sealedBy (checksumOf b runs) b) runs))) zero-word
       ∙ ap (take n) (reseal b runs (checksumOf b runs) 0)
       ∙ ap (λ (k : ℕ). take k (encode (sealedBy 0 b) runs)) (sealed-len b runs (checksumOf b runs) ∙ sym (sealed-len b runs 0))
 
   front : take (length (prefix (seal b runs) runs)) (storeIn b runs mem) ≡ prefix (seal b runs) runs
   unfolding storeIn
-  front = take-overwrite (prefix (seal b runs) runs) mem (omega (arith, prefix-long, encodedLen-hi b runs))
+  front = take-overwrite (prefix (seal b runs) runs) mem (omega (arith, prefix-long b runs, encodedLen-hi b runs))
 
   seal-count : seal b runs .«zero_extent_count» ≡ b .«zero_extent_count»
   unfolding seal
@@ -263,9 +273,9 @@ module _ (b : Superblock) (runs mem : List ℕ) (fits : Fits b) (lent : 16544 �
   unfolding checksumIn checksumOf
   sum-stored =
       let p : List ℕ = prefix (seal b runs) runs in
-      let n : encodedLen (decode (storeIn b runs mem)) ≡ length p = ap encodedLen decode-stored ∙ seal-len ∙ sym prefix-long in
-      ap (λ (k : ℕ). fnv1a64 (overwrite 152 (zeros 8) (take k (storeIn b runs mem)))) n
-      ∙ ap (λ (l : List ℕ). fnv1a64 (overwrite 152 (zeros 8) l)) front
+      let n : encodedLen (decode (storeIn b runs mem)) ≡ length p = ap encodedLen decode-stored ∙ seal-len b runs ∙ sym (prefix-long b runs) in
+      ap (λ (k : ℕ). fnv1a64 (overwrite checksumOffset (zeros 8) (take k (storeIn b runs mem)))) n
+      ∙ ap (λ (l : List ℕ). fnv1a64 (overwrite checksumOffset (zeros 8) l)) front
       ∙ ap fnv1a64 blank
 
   module _ (few : b .«zero_extent_count» ≤ 1024) (count : length runs ≡ b .«zero_extent_count» * 2) (wide : Wide runs) where
@@ -275,7 +285,7 @@ module _ (b : Superblock) (runs mem : List ℕ) (fits : Fits b) (lent : 16544 �
         let n : ℕ = b .«zero_extent_count» in
         ap (λ (k : ℕ). runsIn k (drop 160 (storeIn b runs mem))) (ap (λ (x : Superblock). x .«zero_extent_count») decode-stored ∙ seal-count)
         ∙ runsIn-alike n (drop 160 (storeIn b runs mem)) (drop 160 (encode (seal b runs) runs)) (λ i h.
-        getD-drop 160 (storeIn b runs mem) i 0 ∙ stored-at (160 + i) (omega arith) ∙ sym (getD-drop 160 (encode (seal b runs) runs) i 0))
+        getD-drop 160 (storeIn b runs mem) i 0 ∙ stored-at b runs mem lent (160 + i) (omega arith) ∙ sym (getD-drop 160 (encode (seal b runs) runs) i 0))
         ∙ runs-encode (seal b runs) runs n few count wide
 
     -- 01's tests 1 to 3 pass on what was stored, whatever memory held before

@@ -5,6 +5,7 @@ ghost use lib.ListN.{length, drop, take};
 ghost use Rattle.memory.specs.Bytes.{zeros, overwrite};
 ghost use Rattle.fnv.specs.Fnv.{fnv1a64 as hashed};
 ghost use Rattle.words.specs.Words.{wordAt};
+ghost use Rattle.meta.specs.Block.{checksumOffset};
 ghost use Rattle.meta.specs.Runs.{run, runsIn, headNormalized};
 ghost use Rattle.meta.specs.Runs.{normalized as isNormalized};
 use config::Refusal;
@@ -67,12 +68,13 @@ pub fn normalized(bytes: &[u8]) -> bool
 // The hash of the first `n` bytes, with the checksum field as 0.
 fn checksum_of(bytes: &[u8], n: usize) -> u64
     requires { ⌜ (160 ≤ n) × (n ≤ length (now bytes)) ⌝ }
-    ensures { λ r. ⌜ r ≡ hashed (overwrite 152 (zeros 8) (take n (now (bytes .entry)))) ⌝ }
+    ensures { λ r. ⌜ r ≡ hashed (overwrite checksumOffset (zeros 8) (take n (now (bytes .entry)))) ⌝ }
 {
     let blank = [0u8; 8];
-    let before = fnv1a64(&bytes[..152]);
+    let at = Superblock::field_offset(Superblock::META_CHECKSUM);
+    let before = fnv1a64(&bytes[..at]);
     let field = fold_fnv1a64(before, &blank);
-    fold_fnv1a64(field, &bytes[160..n])
+    fold_fnv1a64(field, &bytes[Superblock::EXTENTS_OFFSET..n])
 }
 
 // The superblock in the first bytes of a slice.
@@ -97,7 +99,7 @@ pub fn load(bytes: &[u8]) -> Loaded
     if block.meta_checksum != checksum_of(bytes, n) {
         return Loaded::Refused(Refusal::MetaChecksumMismatch);
     }
-    if normalized(&bytes[160..n]) {
+    if normalized(&bytes[Superblock::EXTENTS_OFFSET..n]) {
         return Loaded::Block(block);
     }
     Loaded::Refused(Refusal::MetaChecksumMismatch)

@@ -63,7 +63,7 @@ fn is_outside(b: Superblock, end: u64) -> bool
 fn not_opened(count: StablePages, refusal: Refusal) -> Step
     ensures { λ r. ⌜ r ≡ record { state = ended 16384 65536 8 1024 18446744073709551615 realCodec (count .0) noBlock; answer = Refused refusal } ⌝ }
 {
-    let none = Superblock::of_numbers(&[0u64; 21]);
+    let none = Superblock::of_numbers(&[0u64; Superblock::NUMBERS]);
     Step {
         state: lending::ended(count, none),
         answer: Answer::Refused(refusal),

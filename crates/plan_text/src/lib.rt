@@ -6,6 +6,7 @@ use crate::section::read_dirty;
 use crate::section::read_extents;
 use crate::section::read_records;
 use decimal::Numeral;
+use meta::Superblock;
 use plan_line::read_field;
 pub use plan_report::Answer;
 pub use plan_report::print;
@@ -33,10 +34,10 @@ ghost use Rattle.plan_text.specs.Fill.{outcome, filledBy};
 
 pub const MOST_BYTES: usize = 65_536;
 
-// Of each kind at most 1,024 lines; a run is two numbers.
-pub const MOST_PAGES: usize = 1_024;
+// Of each kind at most as many lines as a superblock has runs; a run is two numbers.
+pub const MOST_PAGES: usize = Superblock::MAX_ZERO_EXTENTS as usize;
 
-pub const MOST_RUN_NUMBERS: usize = 2_048;
+pub const MOST_RUN_NUMBERS: usize = 2 * MOST_PAGES;
 
 // What follows the two sizes.
 fn parse_lists(

@@ -4,76 +4,42 @@ use Prim.Native.Nat.{ℕ, zero, suc, _+_, _-_, _*_, _/_, _≤_, _<_, min}
 use borrow.Author.Tests.{leb-true}
 use native.Mathlib.Omega.{arith}
 use mathlib.Core.Bool.{Bool, true, false}
-use mathlib.Core.List.{List, [], _∷_, _++_, append-assoc}
-use lib.ListN.{length, getD, take, drop, length-append, length-take}
-use lib.Seq.{getD-take, getD-drop, drop-drop, drop-at}
+use mathlib.Core.List.{List, [], _∷_}
+use lib.ListN.{length, getD, drop, length-take}
+use lib.Seq.{getD-drop, drop-drop}
 use Rattle.config.specs.declared.refusal.Refusal.{Refusal}
 use Rattle.config.specs.declared.refusal.Refusal.the-variants.{ForeignStableMemoryImage, UnsupportedLayoutVersion, MetaChecksumMismatch}
 use lib.Dec.{leb, eqb}
-use Rattle.memory.specs.Bytes.{resize, overwrite}
-use Rattle.memory.specs.Laws.{resize-in, overwrite-in, length-overwrite}
+use Rattle.memory.specs.Laws.{length-overwrite}
 use Rattle.meta.specs.declared.superblock.Superblock.{Superblock}
 use Rattle.meta.specs.declared.ZeroExtent.{ZeroExtent}
 use Rattle.meta_load.specs.declared.Loaded.{Loaded}
 use Rattle.meta_load.specs.declared.Loaded.the-variants.{Block, Refused}
-use Rattle.words.specs.Words.{le, word, words, wordAt, wordsIn, length-word, length-le, length-words, wordAt-word, wordAt-drop, wordAt-alike, wordAt-lt, Bytes, bytes-drop}
+use Rattle.words.specs.Words.{wordAt, wordsIn, wordAt-drop, wordAt-alike, wordAt-lt, Bytes, bytes-drop}
 use Rattle.meta.specs.Runs.{run, runsOf, numbersOf, runsIn, runsIn-alike, normalized}
-use Rattle.meta.specs.Block.{magic, decode, encode, encodedLen, prefix, seal, storeIn, fieldsOf, fieldsIn, fieldOffset, offset-is, header, headerOf, blockBytes, unsealed, fresh}
-use Rattle.meta.specs.BlockLaws.{fieldsIn-at, length-encode, encodedLen-lo, encodedLen-hi}
+use Rattle.meta.specs.Block.{magic, decode, encode, encodedLen, prefix, seal, storeIn, fieldsOf, fieldsIn, fieldOffset, offset-is, fresh}
+use Rattle.meta.specs.BlockLaws.{fieldsIn-at, field-at, length-encode, encodedLen-lo}
 use Rattle.meta_load.specs.Load.{pick, judge, load, blockRuns}
-use Rattle.meta_load.specs.RoundTrip.{Wide, decode-alike, runs-encode}
+use Rattle.meta_load.specs.RoundTrip.{Wide, decode-alike, stored-at, runs-encode}
 use Rattle.runs.specs.Members.{From}
 use Rattle.runs.specs.SetLaws.{normalized-from}
 use Rattle.image_runs.specs.Image.{imageCount, imageNumbers, imageRuns, image-all}
 use Rattle.runs.specs.FlatLaws.{length-numbers}
 use Rattle.update.specs.PageLaws.{EndsBy}
-use Rattle.store.specs.Codec.{Codec, stored, realCodec, real-stored}
+use Rattle.store.specs.Codec.{stored, realCodec}
 use Rattle.store.specs.Blocks.{importing}
 use Rattle.store.specs.Lawful.{Fits, LoadedAs, Lawful, Alike}
 
 -- ## Fields
 
-words-at : (i : ℕ) (ns t : List ℕ) → i < length ns → getD ns i 0 < 18446744073709551616 → wordAt (i * 8) (words ns ++ t) ≡ getD ns i 0
-words-at i [] t h b = absurd (omega arith)
-words-at zero (n ∷ ns) t h b = ap (wordAt 0) (append-assoc (word n) (words ns) t) ∙ wordAt-word n (words ns ++ t) b
-words-at (suc i) (n ∷ ns) t h b =
-    let e : suc i * 8 ≡ 8 + i * 8 = omega arith in
-    ap (λ (o : ℕ). wordAt o (words (n ∷ ns) ++ t)) e
-    ∙ sym (wordAt-drop 8 (i * 8) (words (n ∷ ns) ++ t))
-    ∙ ap (wordAt (i * 8)) (ap (drop 8) (append-assoc (word n) (words ns) t) ∙ drop-at (word n) (words ns ++ t) 8 (length-word n))
-    ∙ words-at i ns t (omega arith) b
-
-header-at : (m v p : ℕ) (f t : List ℕ) (i : ℕ) → i < length f → getD f i 0 < 18446744073709551616 → wordAt (16 + i * 8) (headerOf m v p f ++ t) ≡ getD f i 0
-unfolding headerOf
-header-at m v p f t i h b =
-    let front : List ℕ = word m ++ (le 4 v ++ le 4 p) in
-    let e : (word m ++ (le 4 v ++ (le 4 p ++ words f))) ++ t ≡ front ++ (words f ++ t) = simp append-assoc in
-    let l : length front ≡ 16 = simp (length-append, length-word) in
-    ap (wordAt (16 + i * 8)) e ∙ sym (wordAt-drop 16 (i * 8) (front ++ (words f ++ t))) ∙ ap (wordAt (i * 8)) (drop-at front (words f ++ t) 16 l) ∙ words-at i f t h b
-
 module _ (b : Superblock) (runs mem : List ℕ) (lent : 16544 ≤ length mem) where
-  prefix-long : length (prefix (seal b runs) runs) ≡ encodedLen (seal b runs)
-  unfolding prefix
-  prefix-long = length-take (encodedLen (seal b runs)) (encode (seal b runs) runs) ∙ omega (arith, encodedLen-hi (seal b runs) runs, length-encode (seal b runs) runs)
-
-  -- the stored bytes are those of the block
-  stored-at : (i : ℕ) → i < encodedLen (seal b runs) → getD (storeIn b runs mem) i 0 ≡ getD (encode (seal b runs) runs) i 0
-  unfolding storeIn prefix
-  stored-at i h =
-      let p : List ℕ = prefix (seal b runs) runs in
-      overwrite-in 0 p mem i (omega arith) (omega (arith, prefix-long)) (omega (arith, encodedLen-hi (seal b runs) runs))
-      ∙ ap (λ (k : ℕ). getD p k 0) {x = i - 0} {y = i} (omega arith)
-      ∙ getD-take (encodedLen (seal b runs)) (encode (seal b runs) runs) i 0 h
-
   -- a field that is a number of 64 bits is read again
   field-stored : (i : ℕ) → i < 18 → getD (fieldsOf (seal b runs)) i 0 < 18446744073709551616 → getD (fieldsIn (storeIn b runs mem)) i 0 ≡ getD (fieldsOf (seal b runs)) i 0
-  unfolding encode blockBytes header
   field-stored i lt w =
       let z : Superblock = seal b runs in
-      fieldsIn-at (storeIn b runs mem) i lt ∙ ap (λ (o : ℕ). wordAt o (storeIn b runs mem)) (offset-is i)
-      ∙ wordAt-alike (16 + i * 8) (storeIn b runs mem) (encode z runs) (λ j lo hi. stored-at j (omega (arith, encodedLen-lo z runs)))
-      ∙ wordAt-alike (16 + i * 8) (encode z runs) (header z ++ words runs) (λ j lo hi. resize-in 16544 (header z ++ words runs) j (omega arith))
-      ∙ header-at (z .magic) (z .version) (z .«sqlite_page_size») (fieldsOf z) (words runs) i lt w
+      fieldsIn-at (storeIn b runs mem) i lt
+      ∙ wordAt-alike (fieldOffset i) (storeIn b runs mem) (encode z runs) (λ j lo hi. stored-at b runs mem lent j (omega (arith, encodedLen-lo b runs, offset-is i)))
+      ∙ field-at z runs i lt w
 
 -- ## Runs
 

@@ -5,7 +5,7 @@ use mathlib.Core.Bool.{Bool, true, false}
 use mathlib.Core.List.{List, [], _∷_}
 use lib.Dec.{ltb}
 use borrow.Author.Tests.{le-ltb}
-use lib.ListN.{length, getD, take}
+use lib.ListN.{length, take}
 use Rattle.config.specs.Refusals.{numbersOf as numbersOfRefusal}
 use Rattle.memory.specs.declared.Growth.{Growth}
 use Rattle.memory.specs.declared.Growth.the-variants.{Grown, Refused as GrowthRefused}
@@ -13,6 +13,7 @@ use Rattle.memory.specs.Bytes.{zeros, overwrite}
 use Rattle.memory.specs.Growth.{Outcome, growTo}
 use Rattle.meta_load.specs.declared.Loaded.{Loaded}
 use Rattle.meta_load.specs.declared.Loaded.the-variants.{Block, Refused}
+use Rattle.meta.specs.declared.superblock.Superblock.{Superblock}
 use Rattle.meta.specs.Block.{numbersOf, ofNumbers, fresh, storeIn}
 use Rattle.meta_load.specs.Load.{load}
 use Rattle.runs.specs.Flat.{runsIn}
@@ -51,13 +52,18 @@ freshFields fields =
     (answer 0 (overwrite 0 (numbersOf fresh) fields))
 
 -- 31 for too many runs; the list is memory
+unfoldable pub storeBlock : Superblock → List ℕ → List ℕ → Answer
+storeBlock b mem runs =
+    let n : ℕ = b .«zero_extent_count» in
+    pick (ltb 1024 n) (answer 31 mem)
+    (pick (ltb (length runs) (n * 2)) (answer 35 mem)
+    (answer 0 (storeIn b (take (n * 2) runs) mem)))
+
 unfoldable pub storeFields : List ℕ → List ℕ → List ℕ → Answer
 storeFields mem fields runs =
     pick (ltb (length mem) 16544) (answer 35 mem)
     (pick (ltb (length fields) 21) (answer 35 mem)
-    (pick (ltb 1024 (getD fields 19 0)) (answer 31 mem)
-    (pick (ltb (length runs) (getD fields 19 0 * 2)) (answer 35 mem)
-    (answer 0 (storeIn (ofNumbers fields) (take (getD fields 19 0 * 2) runs) mem)))))
+    (storeBlock (ofNumbers fields) mem runs))
 
 -- ## Growth
 
@@ -130,3 +136,8 @@ unfolding planRuns
 plan-shown work extents old new recorded dirty list o a b c e =
     sym (rw (le-ltb (length list) 1 a, le-ltb 1024 (length extents / 2) b, le-ltb (length work) ((1025 + length dirty * 2) * 2) c)
     (ap (λ (y : Outcome′). planShown (y .work) (y .answer) list) (sym e)))
+
+pub store-shown : (mem fields runs : List ℕ) (b : Superblock) → 16544 ≤ length mem → 21 ≤ length fields → b ≡ ofNumbers fields
+    → storeFields mem fields runs ≡ storeBlock b mem runs
+unfolding storeFields
+store-shown mem fields runs b x y e = rw (le-ltb (length mem) 16544 x, le-ltb (length fields) 21 y) (ap (λ (z : Superblock). storeBlock z mem runs) (sym e))

@@ -80,7 +80,7 @@ pub extern "C" fn yuharopu_grow(mem: &mut [u8], count: u64, end: u64, pages: &mu
 pub extern "C" fn yuharopu_superblock_fresh(fields: &mut [u64]) -> u64
     ensures { λ r. ⌜ answer r (now (fields .exit)) ≡ freshFields (now (fields .entry)) ⌝ }
 {
-    if fields.len() < 21 {
+    if fields.len() < Superblock::NUMBERS {
         return BUFFER_TOO_SHORT;
     }
     let numbers = Superblock::fresh().numbers();
@@ -95,7 +95,7 @@ pub extern "C" fn yuharopu_superblock_load(block: &[u8], fields: &mut [u64]) -> 
     if block.len() < Superblock::ENCODED_LEN {
         return BUFFER_TOO_SHORT;
     }
-    if fields.len() < 21 {
+    if fields.len() < Superblock::NUMBERS {
         return BUFFER_TOO_SHORT;
     }
     match meta_load::load(block) {
@@ -106,7 +106,7 @@ pub extern "C" fn yuharopu_superblock_load(block: &[u8], fields: &mut [u64]) -> 
         }
         Loaded::Refused(refusal) => {
             let n = refusal.numbers();
-            let mut numbers = [0u64; 21];
+            let mut numbers = [0u64; Superblock::NUMBERS];
             numbers[0] = n.first;
             memory::copy_numbers(fields, &numbers);
             n.number
@@ -121,10 +121,11 @@ pub extern "C" fn yuharopu_superblock_store(mem: &mut [u8], fields: &[u64], runs
     if mem.len() < Superblock::ENCODED_LEN {
         return BUFFER_TOO_SHORT;
     }
-    if fields.len() < 21 {
+    if fields.len() < Superblock::NUMBERS {
         return BUFFER_TOO_SHORT;
     }
-    let count = fields[19];
+    let block = Superblock::of_numbers(fields);
+    let count = block.zero_extent_count;
     if Superblock::MAX_ZERO_EXTENTS < count {
         return ZERO_EXTENT_LIMIT_EXCEEDED;
     }
@@ -132,7 +133,6 @@ pub extern "C" fn yuharopu_superblock_store(mem: &mut [u8], fields: &[u64], runs
     if runs.len() < numbers {
         return BUFFER_TOO_SHORT;
     }
-    let block = Superblock::of_numbers(fields);
     block.store(&runs[..numbers], mem);
     0
 }

@@ -10,17 +10,16 @@ use libc::STDOUT_FILENO;
 use plan_text::Answer;
 use plan_text::Parsed;
 
-// Two numbers a run, 1,024 runs.
-fn runs_buffer() -> [u64; 2048]
+fn runs_buffer() -> [u64; plan_text::MOST_RUN_NUMBERS]
     ensures { λ r. ⌜ length r ≡ 2048 ⌝ }
 {
-    [0; 2048]
+    [0; plan_text::MOST_RUN_NUMBERS]
 }
 
-fn pages_buffer() -> [u64; 1024]
+fn pages_buffer() -> [u64; plan_text::MOST_PAGES]
     ensures { λ r. ⌜ length r ≡ 1024 ⌝ }
 {
-    [0; 1024]
+    [0; plan_text::MOST_PAGES]
 }
 
 // 1,025 runs and two for each of 1,024 dirty pages.

@@ -8,7 +8,7 @@ use borrow.Author.Needs.{needs}
 use Rattle.memory.specs.Laws.{length-zeros}
 use Rattle.meta.specs.declared.superblock.Superblock.{Superblock}
 use Rattle.fnv.specs.Fnv.{fnv1a64 as hashed}
-use Rattle.meta.specs.Block.{sealedBy, checksumOf, prefix, encodedLen, encode as encoded, seal as sealed}
+use Rattle.meta.specs.Block.{offset-is, sealedBy, checksumOf, prefix, encodedLen, encode as encoded, seal as sealed}
 use Rattle.meta.specs.BlockLaws.{encode-is, length-encode, encodedLen-hi, reseal}
 use Rattle.meta.specs.Stored.{outcome}
 use Rattle.meta.proofs.superblock.Superblock.seal.Statement.{statement}
@@ -47,8 +47,11 @@ slice-aggregate-fnv1a64 c = simp length-take (omega (arith, fits (c .before)))
 fnv1a64-requires : tie.Need-fnv1a64-requires
 fnv1a64-requires c κs = search needs
 
+field-offset-requires : tie.Need-field-offset-requires
+field-offset-requires c κs = search needs
+
 write-word-requires : tie.Need-write-word-requires
-write-word-requires c κs = omega (arith, whole (c .before .before .before .before))
+write-word-requires c κs = omega (arith, c .before .field-offset .ensures ∙ offset-is 17, whole (c .before .before .before .before .before))
 
 sealed-by-requires-2 : tie.Need-sealed-by-requires-2
 sealed-by-requires-2 c κs = search needs
@@ -59,7 +62,8 @@ same-length c = search needs
 returns : tie.Need-returns
 unfolding sealed checksumOf prefix
 returns c = let w = c .before .before .before in
-    let f = w .before .before in
+    let o = w .before .before in
+    let f = o .before in
     let n = f .before .before in
     let k = n .before in
     let s = k .before .before .before .before .before .before .before .args in
@@ -69,7 +73,7 @@ returns c = let w = c .before .before .before in
     let h : f .fnv1a64 .result ≡ checksumOf b r = f .fnv1a64 .ensures ∙ (λ i. hashed (take (l i) (blank k i))) in
     let block : c .sealed-by2 .result ≡ sealed b r = c .sealed-by2 .ensures ∙ ap (λ (x : ℕ). sealedBy x b) h in
     let bytes : w .write-word .last .0 ≡ encoded (sealed b r) r =
-    w .write-word .ensures ∙ rw (blank k) (reseal b r 0 (f .fnv1a64 .result)) ∙ ap (λ (x : ℕ). encoded (sealedBy x b) r) h in
+    w .write-word .ensures ∙ rw (o .field-offset .ensures, blank k) (reseal b r 0 (f .fnv1a64 .result)) ∙ ap (λ (x : ℕ). encoded (sealedBy x b) r) h in
     λ i. outcome (block i) (bytes i)
 
 pub seal-spec : {M : Type 1} → statement M
@@ -82,6 +86,7 @@ seal-spec =
     slice-reshare-prefix-fnv1a64
     slice-aggregate-fnv1a64
     fnv1a64-requires
+    field-offset-requires
     write-word-requires
     sealed-by-requires-2
     same-length
