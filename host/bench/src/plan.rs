@@ -1,5 +1,6 @@
 //! The plan of a commit on an image of 1,024 zero runs, beside the commits of the original that make the same plan.
 
+use crate::store::image::{DB_SIZE, PAGE_COUNT};
 use crate::{median, ROUNDS};
 use oracle::{Store, Superblock};
 use std::hint::black_box;
@@ -12,8 +13,6 @@ const STRIDE: u64 = 8;
 const PAGES: u64 = RUNS * STRIDE;
 const GROWN_AT_MOST: u64 = 102;
 const CALLS: u32 = 16;
-const DB_SIZE: usize = 3;
-const PAGE_COUNT: usize = 17;
 
 /// The numbers that the library's plan is given.
 struct Input {

@@ -3,7 +3,7 @@
 mod clock;
 mod commits;
 mod empty;
-mod image;
+pub mod image;
 mod reads;
 mod side;
 mod sums;

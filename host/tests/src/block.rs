@@ -1,6 +1,8 @@
 //! The layout of a superblock, written down once more, apart from the library's and the original's.
 
+use crate::plan::Run;
 use crate::prng::Prng;
+use std::ops::Range;
 
 pub const BYTES: usize = yuharopu::SUPERBLOCK_BYTES;
 pub const FIELDS: usize = yuharopu::SUPERBLOCK_FIELDS;
@@ -8,13 +10,30 @@ pub const STABLE_PAGE: usize = 65_536;
 pub const MAX_RUNS: u64 = 1_024;
 pub const CURRENT: u64 = 8;
 
+// The places of the numbers: magic, version and page size, then the eighteen 64-bit fields.
 pub const MAGIC: usize = 0;
 pub const VERSION: usize = 1;
 pub const PAGE_SIZE: usize = 2;
-pub const DB_BASE: usize = 15;
+pub const SIZE: usize = 3;
+pub const SCHEMA: usize = 4;
+pub const TX: usize = 5;
+pub const FLAGS: usize = 6;
+pub const SUM: usize = 7;
+/// expected checksum, written, total, base
+pub const IMPORT: Range<usize> = 8..12;
+/// offset, hash, transaction number
+pub const REFRESH: Range<usize> = 12..15;
+pub const BASE: usize = 15;
+pub const PAGE_TABLE: usize = 16;
+pub const PAGE_COUNT: usize = 17;
 pub const LAYOUT: usize = 18;
 pub const COUNT: usize = 19;
 pub const CHECKSUM: usize = 20;
+
+// The flags.
+pub const IMPORTING: u64 = 1;
+pub const STALE: u64 = 2;
+pub const REFRESHING: u64 = 4;
 
 pub fn magic() -> u64 {
     u64::from_le_bytes(*b"ICSQLITE")
@@ -30,9 +49,14 @@ pub fn place(field: usize) -> (usize, usize) {
     }
 }
 
+/// Where a run lies, in 16 bytes; behind the fields.
+pub fn run_place(run: usize) -> usize {
+    place(FIELDS).0 + 16 * run
+}
+
 /// The bytes that are stored and hashed for this many runs.
 pub fn prefix_len(runs: u64) -> usize {
-    160 + 16 * runs.min(MAX_RUNS) as usize
+    run_place(runs.min(MAX_RUNS) as usize)
 }
 
 pub fn fnv1a64(bytes: &[u8]) -> u64 {
@@ -53,7 +77,7 @@ impl Block {
         fields[MAGIC] = magic();
         fields[VERSION] = CURRENT;
         fields[PAGE_SIZE] = 16_384;
-        fields[DB_BASE] = 65_536;
+        fields[BASE] = 65_536;
         fields[LAYOUT] = CURRENT;
         let runs = Vec::new();
         Self { fields, runs }
@@ -76,7 +100,7 @@ impl Block {
         for (field, number) in self.fields.iter().enumerate() {
             put(&mut bytes, field, *number);
         }
-        for (place, number) in bytes[160..].chunks_mut(8).zip(&self.runs) {
+        for (place, number) in bytes[run_place(0)..].chunks_mut(8).zip(&self.runs) {
             place.copy_from_slice(&number.to_le_bytes());
         }
         bytes
@@ -88,6 +112,21 @@ impl Block {
         seal(&mut bytes);
         bytes
     }
+}
+
+/// The number in a field's place.
+pub fn get(bytes: &[u8], field: usize) -> u64 {
+    let (offset, len) = place(field);
+    let mut number = [0; 8];
+    number[..len].copy_from_slice(&bytes[offset..offset + len]);
+    u64::from_le_bytes(number)
+}
+
+/// As many runs as the block counts.
+pub fn runs_in(bytes: &[u8]) -> Vec<Run> {
+    let number = |at: usize| u64::from_le_bytes(bytes[at..at + 8].try_into().expect("8 bytes"));
+    let places = (0..get(bytes, COUNT) as usize).map(run_place);
+    places.map(|at| (number(at), number(at + 8))).collect()
 }
 
 pub fn put(bytes: &mut [u8], field: usize, number: u64) {
@@ -103,9 +142,7 @@ pub fn checksum_over(bytes: &[u8], len: usize) -> u64 {
 }
 
 pub fn seal(bytes: &mut [u8]) {
-    let (offset, len) = place(COUNT);
-    let count = bytes[offset..offset + len].try_into().expect("eight bytes");
-    let checksum = checksum_over(bytes, prefix_len(u64::from_le_bytes(count)));
+    let checksum = checksum_over(bytes, prefix_len(get(bytes, COUNT)));
     put(bytes, CHECKSUM, checksum);
 }
 

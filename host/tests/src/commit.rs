@@ -1,6 +1,6 @@
 //! Commits of the original, seen as plans.
 
-use crate::block::{Block, COUNT, STABLE_PAGE};
+use crate::block::{Block, COUNT, PAGE_COUNT, SIZE, STABLE_PAGE};
 use crate::plan::{Input, Run, MAX_RUNS, PAGE};
 use crate::plan_case::{far_runs, size};
 use crate::prng::Prng;
@@ -8,8 +8,6 @@ use oracle::{Draft, Refusal, Store, Superblock};
 
 /// So much memory that no commit here lacks any; the stand-in holds only what is written.
 const STABLE_PAGES: u64 = 1 << 47;
-const DB_SIZE: usize = 3;
-const PAGE_COUNT: usize = 17;
 const BUDGET: u64 = 30;
 const TOO_MANY_RUNS: u64 = 31;
 
@@ -60,7 +58,7 @@ impl Case {
 
     fn image(&self) -> Vec<u8> {
         let mut block = Block::fresh();
-        block.fields[DB_SIZE] = self.size;
+        block.fields[SIZE] = self.size;
         block.fields[PAGE_COUNT] = self.size.div_ceil(PAGE);
         block.fields[COUNT] = self.runs.len() as u64;
         let made = Superblock {

@@ -3,7 +3,7 @@
 use std::collections::BTreeSet;
 
 pub const PAGE: u64 = 16_384;
-pub const MAX_RUNS: usize = 1_024;
+pub const MAX_RUNS: usize = crate::block::MAX_RUNS as usize;
 
 /// A start and an end page, the end excluded.
 pub type Run = (u64, u64);

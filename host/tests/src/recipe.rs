@@ -209,7 +209,7 @@ fn load_wrong_checksum(index: u64, prng: &mut Prng) -> Case {
         1 => block::checksum_over(&bytes, prefix - 1),
         2 => block::checksum_over(&bytes, block::BYTES),
         3 => block::fnv1a64(&made.unsealed()[..prefix]),
-        4 => block::checksum_over(&bytes, 160),
+        4 => block::checksum_over(&bytes, block::run_place(0)),
         5 => 0,
         6 => right.swap_bytes(),
         _ => right,

@@ -1,14 +1,12 @@
 //! Document 01's examples, and others worked by hand, on a store that owns its buffers.
 
-use conformance::block::{Block, COUNT, STABLE_PAGE};
+use conformance::block::{Block, COUNT, PAGE_COUNT, SIZE, STABLE_PAGE, TX};
 use conformance::plan::{numbers, Run};
 use conformance::store::model::fields_and_runs;
 use yuharopu::{Budget, ChecksumRefresh, Error, Store};
 
 const PAGE: u64 = 16_384;
 const PAGE_LEN: usize = PAGE as usize;
-const SIZE: usize = 3;
-const TX: usize = 5;
 
 fn fresh() -> Store {
     Store::builder().ceiling(8).create().expect("a fresh image")
@@ -34,7 +32,7 @@ fn read(store: &mut Store, offset: u64, len: usize) -> (bool, Vec<u8>) {
 fn image(size: u64, runs: &[Run], stable_pages: usize) -> Store {
     let mut block = Block::fresh();
     block.fields[SIZE] = size;
-    block.fields[17] = size.div_ceil(PAGE);
+    block.fields[PAGE_COUNT] = size.div_ceil(PAGE);
     block.fields[COUNT] = runs.len() as u64;
     block.runs = numbers(runs);
     let mut memory = vec![7; stable_pages * STABLE_PAGE];

@@ -88,17 +88,50 @@ fn every_damaged_byte_of_the_prefix_is_refused_by_its_number() {
     let mut prng = Prng::new(1);
     let runs = block::normalized_runs(&mut prng, 9);
     let mut bytes = Block::any(&mut prng, runs).sealed();
+    let of = |field: usize| {
+        let (offset, len) = block::place(field);
+        offset..offset + len
+    };
     for at in 0..block::prefix_len(9) {
         bytes[at] ^= 0x40;
         let number = loaded(&bytes).number;
-        let expected = match at {
-            0..8 => 1,
-            8..12 | 136..144 => 2,
-            _ => 3,
+        let expected = if of(block::MAGIC).contains(&at) {
+            1
+        } else if of(block::VERSION).contains(&at) || of(block::LAYOUT).contains(&at) {
+            2
+        } else {
+            3
         };
         assert_eq!(number, expected, "byte {at}");
         bytes[at] ^= 0x40;
     }
+}
+
+/// The eighteen 64-bit fields, and the runs behind them; each field has a number of its own.
+#[test]
+fn field_k_lies_at_16_plus_8k() {
+    let mut made = Block::fresh();
+    for k in 0..17 {
+        made.fields[3 + k] = (k as u64 + 1) * 0x0101_0101_0101_0101;
+    }
+    made.fields[block::LAYOUT] = block::CURRENT;
+    made.fields[block::COUNT] = 1;
+    made.runs = vec![0x51, 0x62];
+    let mut memory = vec![0; STABLE_PAGE];
+    assert_eq!(
+        yuharopu::superblock_store(&mut memory, &made.fields, &made.runs),
+        0
+    );
+    let number = |at: usize| u64::from_le_bytes(memory[at..at + 8].try_into().expect("8 bytes"));
+    let answer = loaded(&memory);
+    for k in 0..18 {
+        assert_eq!(number(16 + 8 * k), answer.fields[3 + k], "field {k}");
+    }
+    assert_eq!(answer.fields[3..20], made.fields[3..20]);
+    assert_eq!([18, 19].map(|k| number(16 + 8 * k)), made.runs[..]);
+    let mut hashed = memory[..16 + 8 * 20].to_vec();
+    hashed[16 + 8 * 17..16 + 8 * 18].fill(0);
+    assert_eq!(number(16 + 8 * 17), block::fnv1a64(&hashed));
 }
 
 #[test]

@@ -3,8 +3,8 @@
 use super::PAGE;
 use oracle::Superblock;
 
-const DB_SIZE: usize = 3;
-const PAGE_COUNT: usize = 17;
+pub const DB_SIZE: usize = 3;
+pub const PAGE_COUNT: usize = 17;
 /// Past the end of every image here.
 const FIRST_RUN: u64 = 1 << 20;
 

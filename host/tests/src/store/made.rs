@@ -1,18 +1,12 @@
 //! Memories to open: fresh ones, images with odd fields, full of runs or in an import, and ones that cannot be opened.
 
 use super::place::near;
-use crate::block::{self, Block};
+use crate::block::{self, Block, BASE, FLAGS, IMPORT, REFRESH, SIZE, TX};
 use crate::plan::{numbers, Run, MAX_RUNS, PAGE};
 use crate::plan_case::far_runs;
 use crate::prng::Prng;
 
 const STABLE_PAGE: u64 = 65_536;
-const SIZE: usize = 3;
-const TX: usize = 5;
-const FLAGS: usize = 6;
-const IMPORT: usize = 8;
-const REFRESH: usize = 12;
-const BASE: usize = 15;
 
 /// Memory, of which `count` stable pages are in use. Its whole stable pages are the ceiling.
 #[derive(Clone)]
@@ -68,8 +62,8 @@ impl Made {
         block.fields[FLAGS] = unknown + prng.pick(&[0, 0, 0, 2, 4, 6, 1, 3, 5]);
         let tx = block.fields[TX];
         let reached = near(prng, size);
-        block.fields[REFRESH] = prng.pick(&[0, size / 2, size, reached]);
-        block.fields[REFRESH + 2] = prng.pick(&[tx, tx, tx / 2, 5]);
+        block.fields[REFRESH.start] = prng.pick(&[0, size / 2, size, reached]);
+        block.fields[REFRESH.start + 2] = prng.pick(&[tx, tx, tx / 2, 5]);
         self.import(prng, &mut block, end);
         block
     }
@@ -84,12 +78,7 @@ impl Made {
         let held = &self.memory[base as usize..(base + written) as usize];
         let sum = block::fnv1a64(held);
         let expected = prng.pick(&[sum, sum, 7]);
-        block.fields[IMPORT..IMPORT + 4].copy_from_slice(&[
-            expected,
-            written,
-            written + more,
-            base,
-        ]);
+        block.fields[IMPORT].copy_from_slice(&[expected, written, written + more, base]);
     }
 
     /// So that it is refused by 1 to 4, mostly.
@@ -102,15 +91,15 @@ impl Made {
             (block::COUNT, &[1_025, u64::MAX]),
             (SIZE, &[end, u64::MAX, end + 1, end - STABLE_PAGE + 1]),
             (BASE, &[0, STABLE_PAGE - 1, end, end + 1, u64::MAX]),
-            (IMPORT + 1, &[end, u64::MAX, 0]),
-            (IMPORT + 3, &[0, STABLE_PAGE - 1, end + 1, u64::MAX]),
+            (IMPORT.start + 1, &[end, u64::MAX, 0]),
+            (IMPORT.start + 3, &[0, STABLE_PAGE - 1, end + 1, u64::MAX]),
         ];
         match prng.below(10) {
             0 => self.memory[prng.below(170) as usize] ^= 1,
             1 => {
                 let bytes = &mut self.memory[..block::BYTES];
                 block::put(bytes, block::COUNT, 1);
-                bytes[160..176].fill(0);
+                bytes[block::run_place(0)..block::run_place(1)].fill(0);
                 block::seal(bytes);
             }
             _ => {

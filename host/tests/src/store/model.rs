@@ -8,29 +8,13 @@ pub use opening::fields_and_runs;
 use super::outcome::Refused;
 use super::update::{Update, View};
 use super::{Buffers, Call, Outcome, Room};
-use crate::block::{prefix_len, Block, FIELDS};
+use crate::block::{
+    prefix_len, Block, BASE, COUNT, FIELDS, FLAGS, IMPORT, IMPORTING, LAYOUT, PAGE_COUNT,
+    PAGE_TABLE, REFRESH, REFRESHING, SCHEMA, SIZE, STALE, SUM, TX,
+};
 use crate::plan::{numbers, Input, Run, PAGE};
 
 pub const STABLE_PAGE: u64 = 65_536;
-
-const SIZE: usize = 3;
-const SCHEMA: usize = 4;
-const TX: usize = 5;
-const FLAGS: usize = 6;
-const SUM: usize = 7;
-/// expected checksum, written, total, base
-const IMPORT: std::ops::Range<usize> = 8..12;
-/// offset, hash, transaction number
-const REFRESH: std::ops::Range<usize> = 12..15;
-const BASE: usize = 15;
-const PAGE_TABLE: usize = 16;
-const PAGE_COUNT: usize = 17;
-const LAYOUT: usize = 18;
-const RUNS: usize = 19;
-
-const IMPORTING: u64 = 1;
-const STALE: u64 = 2;
-const REFRESHING: u64 = 4;
 
 type Tried<T> = Result<T, Refused>;
 
@@ -227,13 +211,13 @@ impl Model {
 
     /// The superblock of these fields and runs.
     fn store(&mut self) {
-        self.fields[RUNS] = self.runs.len() as u64;
+        self.fields[COUNT] = self.runs.len() as u64;
         let block = Block {
             fields: self.fields,
             runs: numbers(&self.runs),
         };
         let bytes = block.sealed();
-        let len = prefix_len(self.fields[RUNS]);
+        let len = prefix_len(self.fields[COUNT]);
         self.memory[..len].copy_from_slice(&bytes[..len]);
         self.fields = opening::fields_in(&self.memory);
     }

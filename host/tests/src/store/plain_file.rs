@@ -6,12 +6,10 @@ mod pages;
 
 use super::update::View;
 use super::{Call, Outcome};
+use crate::block::{self, BASE, SIZE};
 use crate::plan::{Run, PAGE};
 use draft::Draft;
 use pages::Pages;
-
-const SIZE: usize = 3;
-const BASE: usize = 15;
 
 pub struct PlainFile {
     size: u64,
@@ -34,11 +32,8 @@ fn hold(holds: bool, what: impl FnOnce() -> String) -> Held {
 impl PlainFile {
     /// "Opening and accepted import calls set it to the image in the memory they leave."
     pub fn in_memory(memory: &[u8]) -> Self {
-        let number = |at: usize| u64::from_le_bytes(memory[at..at + 8].try_into().expect("8"));
-        let field = |field: usize| number(16 + 8 * (field - 3));
-        let places = (0..field(19) as usize).map(|run| 160 + 16 * run);
-        let runs: Vec<Run> = places.map(|at| (number(at), number(at + 8))).collect();
-        let (size, base) = (field(SIZE), field(BASE));
+        let (size, base) = (block::get(memory, SIZE), block::get(memory, BASE));
+        let runs = block::runs_in(memory);
         let image = View {
             size,
             base,

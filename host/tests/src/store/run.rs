@@ -4,12 +4,10 @@ use super::act::{Act, Needs};
 use super::choose::Seen;
 use super::update::{Page, Update};
 use super::{Buffers, Call, Library, Made, Model, Original, Outcome, PlainFile, PAGE_LEN};
+use crate::block::{BASE, IMPORT};
 
 const STABLE_PAGE: usize = 65_536;
 const ADDED: [u64; 2] = [33, 34];
-const IMPORT_WRITTEN: usize = 9;
-const IMPORT_TOTAL: usize = 10;
-const BASE: usize = 15;
 /// The open update's numbers in the state.
 const UPDATE: usize = 23;
 
@@ -261,6 +259,7 @@ impl Run {
 
     pub fn seen(&self) -> Seen {
         let fields = &self.model.fields;
+        let [_, written, total, _] = fields[IMPORT].try_into().expect("four fields");
         Seen {
             size: self.model.size(),
             base: fields[BASE],
@@ -268,7 +267,7 @@ impl Run {
             ceiling: (self.library.memory.len() / STABLE_PAGE) as u64,
             updating: self.model.update.is_some(),
             importing: self.model.is_importing(),
-            import: (fields[IMPORT_WRITTEN], fields[IMPORT_TOTAL]),
+            import: (written, total),
             dirty: self.dirty().iter().map(|(page, _)| *page).collect(),
             runs: self.model.runs.len(),
             needs: self.needs(),

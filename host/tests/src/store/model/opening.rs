@@ -1,32 +1,19 @@
 //! Opening: 35, 32, then 1 to 4.
 
-use super::{Model, Tried, BASE, FLAGS, IMPORT, IMPORTING, LAYOUT, RUNS, SIZE, STABLE_PAGE};
-use crate::block::{self, Block, FIELDS};
+use super::{Model, Tried, STABLE_PAGE};
+use crate::block::{self, Block, BASE, COUNT, FIELDS, FLAGS, IMPORT, IMPORTING, LAYOUT, SIZE};
 use crate::plan::{is_normalized, Run};
 use crate::store::outcome::Refused;
 use crate::store::Buffers;
 
 /// The numbers in the fields' places.
 pub fn fields_in(memory: &[u8]) -> [u64; FIELDS] {
-    let number = |field: usize| {
-        let (offset, len) = block::place(field);
-        let mut bytes = [0; 8];
-        bytes[..len].copy_from_slice(&memory[offset..offset + len]);
-        u64::from_le_bytes(bytes)
-    };
-    std::array::from_fn(number)
-}
-
-fn runs_in(memory: &[u8], count: u64) -> Vec<Run> {
-    let number = |at: usize| u64::from_le_bytes(memory[at..at + 8].try_into().expect("8 bytes"));
-    let places = (0..count as usize).map(|run| 160 + 16 * run);
-    places.map(|at| (number(at), number(at + 8))).collect()
+    std::array::from_fn(|field| block::get(memory, field))
 }
 
 /// The fields and the runs of the image in memory, untested.
 pub fn fields_and_runs(memory: &[u8]) -> ([u64; FIELDS], Vec<Run>) {
-    let fields = fields_in(memory);
-    (fields, runs_in(memory, fields[RUNS]))
+    (fields_in(memory), block::runs_in(memory))
 }
 
 impl Model {
@@ -68,12 +55,12 @@ fn loaded(memory: &[u8]) -> Tried<([u64; FIELDS], Vec<Run>)> {
             return Err((2, [number, 0]));
         }
     }
-    if fields[RUNS] > block::MAX_RUNS {
+    if fields[COUNT] > block::MAX_RUNS {
         return Err((3, [0; 2]));
     }
-    let runs = runs_in(memory, fields[RUNS]);
+    let runs = block::runs_in(memory);
     let hashed = &memory[..block::BYTES];
-    let sum = block::checksum_over(hashed, block::prefix_len(fields[RUNS]));
+    let sum = block::checksum_over(hashed, block::prefix_len(fields[COUNT]));
     if sum != fields[block::CHECKSUM] || !is_normalized(&runs) {
         return Err((3, [0; 2]));
     }
