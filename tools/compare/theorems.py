@@ -15,7 +15,7 @@ config.specs.Pages| count
 memory.specs.Bytes| zeros overwrite resize
 memory.specs.Growth stable| growTo=growMemory required=requiredPages
 meta.specs.Runs| normalized
-meta.specs.Block magic ofFields|real fieldsIn decode=decodeBlock checksumOf seal prefix encodedLen blockBytes encode header headerOf fresh=freshBlock
+meta.specs.Block magic ofFields|real fieldOffset fieldsIn decode=decodeBlock checksumOf seal prefix encodedLen blockBytes encode header headerOf fresh=freshBlock
 words.specs.Words|real word wordAt
 fnv.specs.Fnv|real mixed step fold fnv1a64
 meta_load.specs.Load|real load=loadBlock judge blockRuns checksumIn

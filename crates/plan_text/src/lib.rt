@@ -34,7 +34,7 @@ ghost use Rattle.plan_text.specs.Fill.{outcome, filledBy};
 
 pub const MOST_BYTES: usize = 65_536;
 
-// Of each kind at most as many lines as a superblock has runs; a run is two numbers.
+// "1,024 of each at most", as many as a superblock may have runs; a run is two numbers.
 pub const MOST_PAGES: usize = Superblock::MAX_ZERO_EXTENTS as usize;
 
 pub const MOST_RUN_NUMBERS: usize = 2 * MOST_PAGES;
