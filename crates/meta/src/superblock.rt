@@ -198,7 +198,7 @@ impl Superblock {
             page_count: f[14],
             layout_version: f[15],
             zero_extent_count: f[16],
-            meta_checksum: f[17],
+            meta_checksum: f[Superblock::META_CHECKSUM],
         }
     }
 

@@ -22,11 +22,13 @@ fn pages_buffer() -> [u64; plan_text::MOST_PAGES]
     [0; plan_text::MOST_PAGES]
 }
 
-// 1,025 runs and two for each of 1,024 dirty pages.
-fn work_list() -> [u64; 6146]
+// One run more than an image may have, and two for each dirty page.
+const WORK_NUMBERS: usize = 2 * (plan_text::MOST_PAGES + 1 + 2 * plan_text::MOST_PAGES);
+
+fn work_list() -> [u64; WORK_NUMBERS]
     ensures { λ r. ⌜ length r ≡ 6146 ⌝ }
 {
-    [0; 6146]
+    [0; WORK_NUMBERS]
 }
 
 // One byte more than an input may have, so that a longer one is seen.
