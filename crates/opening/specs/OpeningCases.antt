@@ -2,7 +2,7 @@
 use mathlib.Core.Path.{_≡_, refl, sym, ap, _∙_}
 use Prim.Native.Nat.{ℕ, _*_, _≤_, _<_}
 use native.Mathlib.Omega.{arith}
-use mathlib.Core.Bool.{Bool, true, false, cond, true≢false}
+use mathlib.Core.Bool.{Bool, true, false, not, cond, true≢false}
 use mathlib.Core.List.{List, []}
 use lib.ListN.{length}
 use borrow.Author.Tests.{lt-ltb, le-ltb, eq-eqb, ne-eqb}
@@ -18,15 +18,19 @@ use Rattle.meta_load.specs.declared.Loaded.the-variants.{Block, Refused as NotL
 use Rattle.meta.specs.Block.{seal, storeIn, fresh}
 use Rattle.meta_load.specs.Load.{load}
 use Rattle.meta.specs.Stored.{Outcome as Stored, outcome as stores}
+use Rattle.update.specs.Laid.{bufs}
 use Rattle.store.specs.declared.State.{State}
 use Rattle.store.specs.declared.Step.{Step}
 use Rattle.store.specs.declared.Answer.the-variants.{Done, Refused}
 use Rattle.store.specs.Codec.{realCodec, stored}
 use Rattle.store.specs.Store.{ended}
 use Rattle.store.specs.MemoryLaws.{grow-cases}
-use Rattle.store.specs.Opening.{noBlock, outside, notOpened, openFresh, openLoaded, open′}
+use Rattle.store.specs.Blocks.{importing}
+use Rattle.store.specs.Calls.{importCancel}
+use Rattle.store.specs.Opening.{openedBy, noBlock, outside, notOpened, openFresh, openLoaded, openImage, closing, closing-marked, closing-unmarked, open′, open-is}
+use Rattle.transfer.specs.OnMemory.{OnMemory}
 use Rattle.transfer.specs.Steps.{step}
-use Rattle.transfer.specs.StoreCases.{most}
+use Rattle.transfer.specs.StoreCases.{most, not-true, not-false}
 use Rattle.opening.specs.Opened.{opened, outsideOf}
 
 -- ## At count 0
@@ -69,29 +73,29 @@ module _ (m : List ℕ) (g : Growth) (m′ : List ℕ) (e : outcome g m′ ≡ g
 -- ## At any count
 
 module _ (n : ℕ) (m : List ℕ) where
-  pub open-short : length m < n * 65536 → open′ 16384 65536 8 1024 most realCodec n m ≡ notOpened 16384 65536 8 1024 most realCodec n m BufferTooShort
-  unfolding open′
+  pub open-short : length m < n * 65536 → openImage 16384 65536 8 1024 most realCodec n m ≡ notOpened 16384 65536 8 1024 most realCodec n m BufferTooShort
+  unfolding openImage
   open-short h = rw (lt-ltb (length m) (n * 65536) h)
 
   module _ (h : n * 65536 ≤ length m) where
-    pub open-fresh : n ≡ 0 → open′ 16384 65536 8 1024 most realCodec n m ≡ openFresh 16384 65536 8 1024 most realCodec m (growTo 65536 0 65536 m .mem) (growTo 65536 0 65536 m .growth)
-    unfolding open′
+    pub open-fresh : n ≡ 0 → openImage 16384 65536 8 1024 most realCodec n m ≡ openFresh 16384 65536 8 1024 most realCodec m (growTo 65536 0 65536 m .mem) (growTo 65536 0 65536 m .growth)
+    unfolding openImage
     open-fresh z = rw (le-ltb (length m) (n * 65536) h, eq-eqb n 0 z)
 
     module _ (nz : n ≡ 0 → ⊥) where
-      open-loads : open′ 16384 65536 8 1024 most realCodec n m ≡ openLoaded 16384 65536 8 1024 most realCodec n m (load m)
-      unfolding open′ realCodec
+      open-loads : openImage 16384 65536 8 1024 most realCodec n m ≡ openLoaded 16384 65536 8 1024 most realCodec n m (load m)
+      unfolding openImage realCodec
       open-loads = rw (le-ltb (length m) (n * 65536) h, ne-eqb n 0 nz)
 
-      opens : (x : Loaded) → x ≡ load m → open′ 16384 65536 8 1024 most realCodec n m ≡ openLoaded 16384 65536 8 1024 most realCodec n m x
+      opens : (x : Loaded) → x ≡ load m → openImage 16384 65536 8 1024 most realCodec n m ≡ openLoaded 16384 65536 8 1024 most realCodec n m x
       opens x e = open-loads ∙ ap (λ (y : Loaded). openLoaded 16384 65536 8 1024 most realCodec n m y) (sym e)
 
-      pub open-refused : (r : Refusal) → NotLoaded r ≡ load m → open′ 16384 65536 8 1024 most realCodec n m ≡ notOpened 16384 65536 8 1024 most realCodec n m r
+      pub open-refused : (r : Refusal) → NotLoaded r ≡ load m → openImage 16384 65536 8 1024 most realCodec n m ≡ notOpened 16384 65536 8 1024 most realCodec n m r
       open-refused r e = opens (NotLoaded r) e
 
       -- the end of memory as the code has it
       module _ (b : Superblock) (e : Block b ≡ load m) (end : ℕ) (at : end ≡ n * 65536) where
-        opens-if : (t : Bool) → outsideOf end b ≡ t → open′ 16384 65536 8 1024 most realCodec n m
+        opens-if : (t : Bool) → outsideOf end b ≡ t → openImage 16384 65536 8 1024 most realCodec n m
             ≡ cond t (notOpened 16384 65536 8 1024 most realCodec n m ImageOutOfMemory) (opened (step (ended 16384 65536 8 1024 most realCodec n b) Done) m)
         unfolding outside
         opens-if t is =
@@ -99,8 +103,22 @@ module _ (n : ℕ) (m : List ℕ) where
             ∙ ap (λ (x : ℕ). cond (outsideOf x b) (notOpened 16384 65536 8 1024 most realCodec n m ImageOutOfMemory) (opened (step (ended 16384 65536 8 1024 most realCodec n b) Done) m)) (sym at)
             ∙ ap (λ (u : Bool). cond u (notOpened 16384 65536 8 1024 most realCodec n m ImageOutOfMemory) (opened (step (ended 16384 65536 8 1024 most realCodec n b) Done) m)) is
 
-        pub open-outside : outsideOf end b ≡ true → open′ 16384 65536 8 1024 most realCodec n m ≡ notOpened 16384 65536 8 1024 most realCodec n m ImageOutOfMemory
+        pub open-outside : outsideOf end b ≡ true → openImage 16384 65536 8 1024 most realCodec n m ≡ notOpened 16384 65536 8 1024 most realCodec n m ImageOutOfMemory
         open-outside is = opens-if true is
 
-        pub open-done : outsideOf end b ≡ false → open′ 16384 65536 8 1024 most realCodec n m ≡ opened (step (ended 16384 65536 8 1024 most realCodec n b) Done) m
+        pub open-done : outsideOf end b ≡ false → openImage 16384 65536 8 1024 most realCodec n m ≡ opened (step (ended 16384 65536 8 1024 most realCodec n b) Done) m
         open-done is = opens-if false is
+
+-- ## The closing (02, W-202)
+
+module _ (first : Step) (m : List ℕ) where
+  pub close-none : (t : Bool) → t ≡ importing (first .state .block) → not t ≡ true → opened first m ≡ closing 16384 65536 8 1024 most realCodec (opened first m)
+  close-none t e h = sym (closing-unmarked 16384 65536 8 1024 most realCodec (opened first m) (not-true t _ e h))
+
+  pub close-done : (t : Bool) → t ≡ importing (first .state .block) → not t ≡ false → (r : Step) (m′ : List ℕ) → OnMemory (first .state) m importCancel (r .state) m′ (r .answer) []
+      → opened r m′ ≡ closing 16384 65536 8 1024 most realCodec (opened first m)
+  close-done t e h r m′ is = ap openedBy (is (bufs [] [] [] []) []) ∙ sym (closing-marked 16384 65536 8 1024 most realCodec (opened first m) (not-false t _ e h))
+
+  pub open-closed : (n : ℕ) (given : List ℕ) → opened first m ≡ openImage 16384 65536 8 1024 most realCodec n given
+      → (r : Step) (m′ : List ℕ) → opened r m′ ≡ closing 16384 65536 8 1024 most realCodec (opened first m) → opened r m′ ≡ open′ 16384 65536 8 1024 most realCodec n given
+  open-closed n given e r m′ is = is ∙ ap (closing 16384 65536 8 1024 most realCodec) e ∙ sym (open-is 16384 65536 8 1024 most realCodec n given)

@@ -12,7 +12,7 @@ ghost use lib.Dec.{ltb};
 ghost use Rattle.store.specs.declared.Answer.the-variants.{Refused};
 ghost use Rattle.store.specs.Codec.{realCodec};
 ghost use Rattle.store.specs.Store.{ended};
-ghost use Rattle.store.specs.Opening.{noBlock, openFresh, open′};
+ghost use Rattle.store.specs.Opening.{noBlock, openFresh, openImage, closing, open′};
 ghost use Rattle.memory.specs.Growth.{growTo};
 ghost use Rattle.opening.specs.Opened.{opened, importOutside, outsideOf};
 
@@ -87,9 +87,9 @@ fn open_fresh(mem: &mut [u8]) -> Step
     }
 }
 
-// "Opening is given that count": 35, then 1 to 4.
-pub fn open(mem: &mut [u8], count: StablePages) -> Step
-    ensures { λ r. ⌜ opened r (now (mem .exit)) ≡ open′ 16384 65536 8 1024 18446744073709551615 realCodec (count .0) (now (mem .entry)) ⌝ }
+// 01's opening. "Opening is given that count": 35, then 1 to 4.
+fn open_image(mem: &mut [u8], count: StablePages) -> Step
+    ensures { λ r. ⌜ opened r (now (mem .exit)) ≡ openImage 16384 65536 8 1024 18446744073709551615 realCodec (count .0) (now (mem .entry)) ⌝ }
 {
     if !memory::is_lent(mem, count) {
         return not_opened(count, Refusal::BufferTooShort);
@@ -109,4 +109,24 @@ pub fn open(mem: &mut [u8], count: StablePages) -> Step
             }
         }
     }
+}
+
+// "closes it as `cancel_import` would" (02, W-202). A refused opening has no mark.
+fn close_import(first: Step, mem: &mut [u8]) -> Step
+    ensures { λ r. ⌜ opened r (now (mem .exit)) ≡ closing 16384 65536 8 1024 18446744073709551615 realCodec (opened first (now (mem .entry))) ⌝ }
+{
+    let state = first.state;
+    let block = state.block;
+    if !blocks::is_importing(block) {
+        return first;
+    }
+    imports::cancel_import(state, mem)
+}
+
+// "An import no longer outlives the opening of the image." (02, W-202)
+pub fn open(mem: &mut [u8], count: StablePages) -> Step
+    ensures { λ r. ⌜ opened r (now (mem .exit)) ≡ open′ 16384 65536 8 1024 18446744073709551615 realCodec (count .0) (now (mem .entry)) ⌝ }
+{
+    let first = open_image(mem, count);
+    close_import(first, mem)
 }

@@ -1,5 +1,5 @@
 -- What each call makes of the superblock. Page size, schema version (but for the end of an import) and unknown bits of the flags are carried on.
-use mathlib.Core.Path.{_≡_, refl, ap}
+use mathlib.Core.Path.{_≡_, refl, ap, _∙_}
 use Prim.Native.Nat.{ℕ, suc, _+_, _*_, _/_, _%_, _≤_, _<_, min}
 use native.Mathlib.Omega.{arith}
 use mathlib.Core.Bool.{Bool, true, false, cond, _||_}
@@ -98,6 +98,28 @@ module _ (b : Superblock) (s r : Bool) (f : ℕ) where
   marks-importing true e = eq-eqb (b .flags % 2) 1 (omega (arith, parity true))
   marks-importing false e = ne-eqb (b .flags % 2) 1 (omega (arith, parity false))
 
+is-bit : (n : ℕ) (t : Bool) → n ≡ bit t → eqb n 1 ≡ t
+is-bit n true e = eq-eqb n 1 e
+is-bit n false e = ne-eqb n 1 (omega (arith, e))
+
+bit-small : (t : Bool) → bit t ≤ 1
+bit-small true = omega arith
+bit-small false = omega arith
+
+module _ (b : Superblock) (i s r : Bool) (f : ℕ) (e : b .flags ≡ marks i s r f) where
+  pub marks-stale : stale b ≡ s
+  unfolding marks stale
+  marks-stale = ap (λ (x : ℕ). eqb (x / 2 % 2) 1) e ∙ is-bit (marks i s r f / 2 % 2) s (omega (arith, bit-small i, bit-small s, bit-small r))
+
+  pub marks-refreshing : refreshing b ≡ r
+  unfolding marks refreshing
+  marks-refreshing = ap (λ (x : ℕ). eqb (x / 4 % 2) 1) e ∙ is-bit (marks i s r f / 4 % 2) r (omega (arith, bit-small i, bit-small s, bit-small r))
+
+  -- the bits that no call knows
+  pub marks-unknown : b .flags / 8 ≡ f / 8
+  unfolding marks
+  marks-unknown = omega (arith, e, bit-small i, bit-small s, bit-small r)
+
 -- ## Laws: the fields after each call
 
 -- a mark is read from the flags alone
@@ -160,6 +182,35 @@ cancel-keeps b = record { size = refl; base = refl; runs = refl }
 pub after-cancel : (b : Superblock) → importing (afterImportCancel b) ≡ false
 unfolding afterImportCancel
 after-cancel b = marks-importing _ (stale b) (refreshing b) (b .flags) false refl
+
+-- 02, W-202, "as `cancel_import` would": the mark goes and the four import fields become 0, nothing else of the block changes
+pub record Cancels (b b′ : Superblock) : Type 0 where
+  pub mark : importing b′ ≡ false
+  pub expected : b′ .«import_expected_checksum» ≡ 0
+  pub written : b′ .«import_written_until» ≡ 0
+  pub total : b′ .«import_total_size» ≡ 0
+  pub base : b′ .«import_base_offset» ≡ 0
+  pub stale-mark : stale b′ ≡ stale b
+  pub refresh-mark : refreshing b′ ≡ refreshing b
+  pub unknown-bits : b′ .flags / 8 ≡ b .flags / 8
+  -- with flags and import as they were it is the block that it was
+  pub rest : setFlags (b .flags) (setImport (b .«import_expected_checksum») (b .«import_written_until») (b .«import_total_size») (b .«import_base_offset») b′) ≡ b
+
+pub cancels : (b : Superblock) → Cancels b (afterImportCancel b)
+unfolding afterImportCancel
+cancels b =
+    let b′ : Superblock = afterImportCancel b in
+    record {
+      mark = after-cancel b;
+      expected = refl;
+      written = refl;
+      total = refl;
+      base = refl;
+      stale-mark = marks-stale b′ false (stale b) (refreshing b) (b .flags) refl;
+      refresh-mark = marks-refreshing b′ false (stale b) (refreshing b) (b .flags) refl;
+      unknown-bits = marks-unknown b′ false (stale b) (refreshing b) (b .flags) refl;
+      rest = refl;
+    }
 
 pub record Finishes (b b′ : Superblock) : Type 0 where
   pub size : b′ .«db_size» ≡ b .«import_total_size»

@@ -13,5 +13,7 @@ pub mod BufferLengths
 pub mod Tries
 pub mod OnlyShort
 pub mod RealCodec
+pub mod RestoreLaws
 pub mod OpeningLaws
+pub mod ClosingLaws
 pub mod Small

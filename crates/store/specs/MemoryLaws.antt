@@ -114,11 +114,15 @@ module _ (P S C L M : ℕ) (k : Codec) where
 
 -- ## The superblock
 
+-- whatever is stored
+pub stored-long : (k : Codec) (b : Superblock) (rs : List ZeroExtent) (m : List ℕ) → length (stored k b rs m) ≡ length m
+unfolding stored
+stored-long k b rs m = length-overwrite 0 (k .bytes b rs) m
+
 module _ (S L M : ℕ) (k : Codec) (laws : Lawful S L M k) (b : Superblock) (rs : List ZeroExtent) (fit : Fits L M b rs) (m : List ℕ) where
   pub stored-high : (i : ℕ) → S ≤ i → getD (stored k b rs m) i 0 ≡ getD m i 0
   unfolding stored
   stored-high i j = overwrite-hi 0 (k .bytes b rs) m i (omega (arith, laws .short b rs fit))
 
   pub stored-length : length (stored k b rs m) ≡ length m
-  unfolding stored
-  stored-length = length-overwrite 0 (k .bytes b rs) m
+  stored-length = stored-long k b rs m

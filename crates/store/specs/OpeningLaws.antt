@@ -1,4 +1,4 @@
--- An image that opening accepts is in order, the fresh one included.
+-- An image that 01's opening accepts is in order, the fresh one included; and its ways out.
 use mathlib.Core.Path.{_≡_, refl, sym, ap, _∙_, subst}
 use Prim.Native.Nat.{ℕ, zero, suc, _+_, _-_, _*_, _/_, _≤_, _<_}
 use native.Mathlib.Nat.{mul-le-mul-right, pos-of-ne-zero, one-mul}
@@ -24,7 +24,7 @@ use Rattle.update.specs.ListLaws.{clash, tests}
 use Rattle.store.specs.Codec.{Codec, sealed, stored}
 use Rattle.store.specs.Blocks.{importing, seal-importing}
 use Rattle.store.specs.Calls.{number}
-use Rattle.store.specs.Opening.{Opened, outside, notOpened, openFresh, openLoaded, open′}
+use Rattle.store.specs.Opening.{Opened, outside, notOpened, openFresh, openLoaded, openImage}
 use Rattle.store.specs.Lawful.{Fits, LoadedAs, Lawful, Good}
 use Rattle.store.specs.MemoryLaws.{Reaches, grow-cases, stored-length}
 use Rattle.store.specs.Cases.{by-test, no-or}
@@ -51,6 +51,17 @@ refusal-number (GrowFailed x y) e = omega arith
 refusal-number FramesFull e = omega arith
 refusal-number RecordFull e = omega arith
 refusal-number BufferTooShort e = omega arith
+
+-- only a fresh image is stored by 01's opening
+module _ (P S C L M : ℕ) (k : Codec) (n : ℕ) (m : List ℕ) where
+  loaded-mem : (x : Loaded) → openLoaded P S C L M k n m x .mem ≡ m
+  loaded-mem (NotLoaded r) = refl
+  loaded-mem (Block b) = by-test (λ (y : Opened). y .mem ≡ m) (outside P S C L M k n b) _ _ (λ t. refl) (λ f. refl)
+
+  pub image-mem : (n ≡ 0 → ⊥) → openImage P S C L M k n m .mem ≡ m
+  unfolding openImage
+  image-mem h = by-test (λ (y : Opened). y .mem ≡ m) (ltb (length m) (n * S)) _ _ (λ t. refl)
+      (λ f. by-test (λ (y : Opened). y .mem ≡ m) (eqb n 0) _ _ (λ z. absurd (h (eqb-true n 0 z))) (λ z. loaded-mem (k .load m)))
 
 module _ (P S C L M : ℕ) (k : Codec) (spos : 0 < S) (laws : Lawful S L M k) where
   pub record Opens (x : Opened) : Type 0 where
@@ -124,10 +135,10 @@ module _ (P S C L M : ℕ) (k : Codec) (spos : 0 < S) (laws : Lawful S L M k) wh
         (λ t h. absurd (refusal-number ImageOutOfMemory h))
         (λ f h. record { idle = refl; good = loaded-good b l e f })
 
-  -- every image that opening accepts is in order
-  pub opens : (n : ℕ) (m : List ℕ) → Bytes m → length m ≤ M → number (open′ P S C L M k n m .answer) ≡ 0 → Opens (open′ P S C L M k n m)
-  unfolding open′
-  opens n m bytes most = by-test Fine (ltb (length m) (n * S)) _ _
+  -- every image that 01's opening accepts is in order
+  pub image-opens : (n : ℕ) (m : List ℕ) → Bytes m → length m ≤ M → number (openImage P S C L M k n m .answer) ≡ 0 → Opens (openImage P S C L M k n m)
+  unfolding openImage
+  image-opens n m bytes most = by-test Fine (ltb (length m) (n * S)) _ _
       (λ t h. absurd (refusal-number BufferTooShort h))
       (λ f. let held : n * S ≤ length m = ltb-false (length m) (n * S) f in
       by-test Fine (eqb n 0) _ _

@@ -36,7 +36,7 @@ use Rattle.store.specs.Calls.{Call, begin, read, write, truncate, commit
 use Rattle.store.specs.Plan.{required}
 use Rattle.store.specs.Store.{budgetOf, refuse, ended, image, runsOf, over, publish, settle, unchanged, plannedRuns, commitOver, direct, change, doBegin, doRead, full, doCommit, doRollback, restore, doImportBegin, placeChunk, doImportChunk, doImportFinish, doImportCancel, doExport, doChecksum, doRefresh, refreshFrom, doRefreshStep, writePages, alone, act, swept, store}
 use Rattle.store.specs.Lawful.{Lawful, Good}
-use Rattle.store.specs.MemoryLaws.{Reaches, pages-length}
+use Rattle.store.specs.MemoryLaws.{Reaches, pages-length, stored-long}
 use Rattle.store.specs.CommitLaws.{newBlock, flushed, after, commit-good, commit-image}
 use Rattle.store.specs.Cases.{by-test}
 
@@ -140,13 +140,9 @@ module _ (P S C L M : ℕ) (k : Codec) where
   abbrev Long : Lent → Out → Type 0
   Long l x = length (x .lent .mem) ≡ length (l .mem)
 
-  stored-long : (b : Superblock) (rs : List ZeroExtent) (m : List ℕ) → length (stored k b rs m) ≡ length m
-  unfolding stored
-  stored-long b rs m = length-overwrite 0 (k .bytes b rs) m
-
   publish-long : (u : Bool) (s : State) (l : Lent) (w : Over) (rs : List ZeroExtent) (m : List ℕ) (g : Growth) → length m ≡ length (l .mem) → Long l (publish P S C L M k u s l w rs m g)
   publish-long u s l w rs m (NotGrown r) e = refl
-  publish-long u s l w rs m (Grown c) e = stored-long _ rs _ ∙ pages-length P S C L M k (s .block .«db_base_offset») (count P (w .size)) (w .dirty) m ∙ e
+  publish-long u s l w rs m (Grown c) e = stored-long k _ rs _ ∙ pages-length P S C L M k (s .block .«db_base_offset») (count P (w .size)) (w .dirty) m ∙ e
 
   settle-long : (u : Bool) (s : State) (l : Lent) (w : Over) (x : Planned) → Long l (settle P S C L M k u s l w x)
   settle-long u s l w tooMany = refl
@@ -169,7 +165,7 @@ module _ (P S C L M : ℕ) (k : Codec) where
 
   restore-long : (s : State) (l : Lent) (b : Superblock) (a : Answer) → Long l (restore P S C L M k s l b a)
   unfolding restore
-  restore-long s l b a = stored-long b (runsOf P S C L M k b (l .mem)) (l .mem)
+  restore-long s l b a = stored-long k b (runsOf P S C L M k b (l .mem)) (l .mem)
 
   place-long : (s : State) (l : Lent) (o : ℕ) (bs m : List ℕ) (g : Growth) → length m ≡ length (l .mem) → Long l (placeChunk P S C L M k s l o bs m g)
   place-long s l o bs m (NotGrown r) e = refl
@@ -196,7 +192,7 @@ module _ (P S C L M : ℕ) (k : Codec) where
   finish-long s l = by-test (Long l) (not (importing (s .block))) _ _ (λ x. refl)
       (λ x. by-test (Long l) (not (eqb (s .block .«import_written_until») (s .block .«import_total_size»))) _ _ (λ y. refl)
       (λ y. by-test (Long l) (not (eqb (k .hash (k .seed) (take (s .block .«import_total_size») (drop (s .block .«import_base_offset») (l .mem)))) (s .block .«import_expected_checksum»))) _ _
-      (λ z. restore-long s l _ _) (λ z. stored-long _ [] (l .mem))))
+      (λ z. restore-long s l _ _) (λ z. stored-long k _ [] (l .mem))))
 
   cancel-long : (s : State) (l : Lent) → Long l (doImportCancel P S C L M k s l)
   unfolding doImportCancel
