@@ -28,7 +28,7 @@ use Rattle.store.specs.Blocks.{importing, stale, refreshing, marks, afterCommit
 use Rattle.store.specs.Calls.{Call, begin, read, write, truncate, commit, Lent, Out, out, number, short, withMem, Mode, idle, update, modeOf}
 use Rattle.store.specs.Plan.{storePlan}
 use Rattle.store.specs.Store.{noOverlay, imageBytes, unchanged, plannedRuns, commitOver, store, runsOf, sizeNow}
-use Rattle.store.specs.Opening.{Opened, outside, open′}
+use Rattle.store.specs.Opening.{Opened, outside, openImage, closing, open′}
 
 -- the store at 01's sizes
 abbrev pub real : State → Lent → Call → Out
@@ -132,7 +132,7 @@ first : trace (opened 2) (begin false 0 0 ∷ write 16384 (7 ∷ []) ∷ commit 
     ∷ seen 0 16385 [] [] (0 ∷ 1 ∷ []) 2 []
     ∷ seen 0 16385 [] [] (0 ∷ 1 ∷ []) 2 (0 ∷ [])
     ∷ []
-unfolding count zeros overwrite resize growMemory requiredPages normalized word wordAt mixed step fold fnv1a64 header headerOf blockBytes encode fieldsIn decode encodedLen prefix checksumOf seal storeIn freshBlock blockRuns checksumIn judgeBlock loadBlock imageCount imageNumbers within merge insert add around piece remove flatRuns put refill tabulate addNumberIf span grownNumbers imageByte imagePage pushRun raw overByte budgetBytes raised touch blank copy stretch patch finish grow growTo chop tail truncated wholePage overWrite written fresh lookUp sized passing marked tryTouch tryPatch tryFinish tryGrow tryGrowTo tryTail tryChop tryTruncate tryWrite frameCount entryCount wiped cached shortBuffers view overlayOf putBack stored realCodec importing stale refreshing marks afterCommit short storePlan noOverlay imageBytes unchanged plannedRuns commitOver store outside open′ additions lentFresh opened
+unfolding count zeros overwrite resize growMemory requiredPages normalized word wordAt mixed step fold fnv1a64 header headerOf blockBytes encode fieldsIn decode encodedLen prefix checksumOf seal storeIn freshBlock blockRuns checksumIn judgeBlock loadBlock imageCount imageNumbers within merge insert add around piece remove flatRuns put refill tabulate addNumberIf span grownNumbers imageByte imagePage pushRun raw overByte budgetBytes raised touch blank copy stretch patch finish grow growTo chop tail truncated wholePage overWrite written fresh lookUp sized passing marked tryTouch tryPatch tryFinish tryGrow tryGrowTo tryTail tryChop tryTruncate tryWrite frameCount entryCount wiped cached shortBuffers view overlayOf putBack stored realCodec importing stale refreshing marks afterCommit short storePlan noOverlay imageBytes unchanged plannedRuns commitOver store outside openImage closing open′ additions lentFresh opened
 first = refl
 
 row1 : look (after (opened 2) (begin false 0 0 ∷ write 16384 (7 ∷ []) ∷ [])) ≡ seen 0 16385 (0 ∷ 2 ∷ []) (1 ∷ []) [] 1 []
@@ -149,23 +149,23 @@ row5 = ap (seenAt 5) first
 
 -- the others are computed each for itself
 row3 : look (after (opened 2) (write 0 (7 ∷ []) ∷ [])) ≡ (seen 0 1 [] [] [] 2 [])
-unfolding count zeros overwrite resize growMemory requiredPages normalized word wordAt mixed step fold fnv1a64 header headerOf blockBytes encode fieldsIn decode encodedLen prefix checksumOf seal storeIn freshBlock blockRuns checksumIn judgeBlock loadBlock imageCount imageNumbers within merge insert add around piece remove flatRuns put refill tabulate addNumberIf span grownNumbers imageByte imagePage pushRun raw overByte budgetBytes raised touch blank copy stretch patch finish grow growTo chop tail truncated wholePage overWrite written fresh lookUp sized passing marked tryTouch tryPatch tryFinish tryGrow tryGrowTo tryTail tryChop tryTruncate tryWrite frameCount entryCount wiped cached shortBuffers view overlayOf putBack stored realCodec importing stale refreshing marks afterCommit short storePlan noOverlay imageBytes unchanged plannedRuns commitOver store outside open′ additions lentFresh opened
+unfolding count zeros overwrite resize growMemory requiredPages normalized word wordAt mixed step fold fnv1a64 header headerOf blockBytes encode fieldsIn decode encodedLen prefix checksumOf seal storeIn freshBlock blockRuns checksumIn judgeBlock loadBlock imageCount imageNumbers within merge insert add around piece remove flatRuns put refill tabulate addNumberIf span grownNumbers imageByte imagePage pushRun raw overByte budgetBytes raised touch blank copy stretch patch finish grow growTo chop tail truncated wholePage overWrite written fresh lookUp sized passing marked tryTouch tryPatch tryFinish tryGrow tryGrowTo tryTail tryChop tryTruncate tryWrite frameCount entryCount wiped cached shortBuffers view overlayOf putBack stored realCodec importing stale refreshing marks afterCommit short storePlan noOverlay imageBytes unchanged plannedRuns commitOver store outside openImage closing open′ additions lentFresh opened
 row3 = refl
 
 row6 : look (after (opened 1) (truncate 18446744073709486080 ∷ [])) ≡ (seen 20 0 [] [] [] 1 [])
-unfolding count zeros overwrite resize growMemory requiredPages normalized word wordAt mixed step fold fnv1a64 header headerOf blockBytes encode fieldsIn decode encodedLen prefix checksumOf seal storeIn freshBlock blockRuns checksumIn judgeBlock loadBlock imageCount imageNumbers within merge insert add around piece remove flatRuns put refill tabulate addNumberIf span grownNumbers imageByte imagePage pushRun raw overByte budgetBytes raised touch blank copy stretch patch finish grow growTo chop tail truncated wholePage overWrite written fresh lookUp sized passing marked tryTouch tryPatch tryFinish tryGrow tryGrowTo tryTail tryChop tryTruncate tryWrite frameCount entryCount wiped cached shortBuffers view overlayOf putBack stored realCodec importing stale refreshing marks afterCommit short storePlan noOverlay imageBytes unchanged plannedRuns commitOver store outside open′ additions lentFresh opened
+unfolding count zeros overwrite resize growMemory requiredPages normalized word wordAt mixed step fold fnv1a64 header headerOf blockBytes encode fieldsIn decode encodedLen prefix checksumOf seal storeIn freshBlock blockRuns checksumIn judgeBlock loadBlock imageCount imageNumbers within merge insert add around piece remove flatRuns put refill tabulate addNumberIf span grownNumbers imageByte imagePage pushRun raw overByte budgetBytes raised touch blank copy stretch patch finish grow growTo chop tail truncated wholePage overWrite written fresh lookUp sized passing marked tryTouch tryPatch tryFinish tryGrow tryGrowTo tryTail tryChop tryTruncate tryWrite frameCount entryCount wiped cached shortBuffers view overlayOf putBack stored realCodec importing stale refreshing marks afterCommit short storePlan noOverlay imageBytes unchanged plannedRuns commitOver store outside openImage closing open′ additions lentFresh opened
 row6 = refl
 
 row7 : look (after (opened 1) (truncate 18446744073709486079 ∷ [])) ≡ (seen 20 0 [] [] [] 1 [])
-unfolding count zeros overwrite resize growMemory requiredPages normalized word wordAt mixed step fold fnv1a64 header headerOf blockBytes encode fieldsIn decode encodedLen prefix checksumOf seal storeIn freshBlock blockRuns checksumIn judgeBlock loadBlock imageCount imageNumbers within merge insert add around piece remove flatRuns put refill tabulate addNumberIf span grownNumbers imageByte imagePage pushRun raw overByte budgetBytes raised touch blank copy stretch patch finish grow growTo chop tail truncated wholePage overWrite written fresh lookUp sized passing marked tryTouch tryPatch tryFinish tryGrow tryGrowTo tryTail tryChop tryTruncate tryWrite frameCount entryCount wiped cached shortBuffers view overlayOf putBack stored realCodec importing stale refreshing marks afterCommit short storePlan noOverlay imageBytes unchanged plannedRuns commitOver store outside open′ additions lentFresh opened
+unfolding count zeros overwrite resize growMemory requiredPages normalized word wordAt mixed step fold fnv1a64 header headerOf blockBytes encode fieldsIn decode encodedLen prefix checksumOf seal storeIn freshBlock blockRuns checksumIn judgeBlock loadBlock imageCount imageNumbers within merge insert add around piece remove flatRuns put refill tabulate addNumberIf span grownNumbers imageByte imagePage pushRun raw overByte budgetBytes raised touch blank copy stretch patch finish grow growTo chop tail truncated wholePage overWrite written fresh lookUp sized passing marked tryTouch tryPatch tryFinish tryGrow tryGrowTo tryTail tryChop tryTruncate tryWrite frameCount entryCount wiped cached shortBuffers view overlayOf putBack stored realCodec importing stale refreshing marks afterCommit short storePlan noOverlay imageBytes unchanged plannedRuns commitOver store outside openImage closing open′ additions lentFresh opened
 row7 = refl
 
 row8 : look (after (opened 1) (truncate 18446744073709469696 ∷ [])) ≡ (seen 32 0 [] [] [] 1 [])
-unfolding count zeros overwrite resize growMemory requiredPages normalized word wordAt mixed step fold fnv1a64 header headerOf blockBytes encode fieldsIn decode encodedLen prefix checksumOf seal storeIn freshBlock blockRuns checksumIn judgeBlock loadBlock imageCount imageNumbers within merge insert add around piece remove flatRuns put refill tabulate addNumberIf span grownNumbers imageByte imagePage pushRun raw overByte budgetBytes raised touch blank copy stretch patch finish grow growTo chop tail truncated wholePage overWrite written fresh lookUp sized passing marked tryTouch tryPatch tryFinish tryGrow tryGrowTo tryTail tryChop tryTruncate tryWrite frameCount entryCount wiped cached shortBuffers view overlayOf putBack stored realCodec importing stale refreshing marks afterCommit short storePlan noOverlay imageBytes unchanged plannedRuns commitOver store outside open′ additions lentFresh opened
+unfolding count zeros overwrite resize growMemory requiredPages normalized word wordAt mixed step fold fnv1a64 header headerOf blockBytes encode fieldsIn decode encodedLen prefix checksumOf seal storeIn freshBlock blockRuns checksumIn judgeBlock loadBlock imageCount imageNumbers within merge insert add around piece remove flatRuns put refill tabulate addNumberIf span grownNumbers imageByte imagePage pushRun raw overByte budgetBytes raised touch blank copy stretch patch finish grow growTo chop tail truncated wholePage overWrite written fresh lookUp sized passing marked tryTouch tryPatch tryFinish tryGrow tryGrowTo tryTail tryChop tryTruncate tryWrite frameCount entryCount wiped cached shortBuffers view overlayOf putBack stored realCodec importing stale refreshing marks afterCommit short storePlan noOverlay imageBytes unchanged plannedRuns commitOver store outside openImage closing open′ additions lentFresh opened
 row8 = refl
 
 row9 : look (after (opened 1) (write 18446744073709551615 [] ∷ [])) ≡ (seen 0 0 [] [] [] 1 [])
-unfolding count zeros overwrite resize growMemory requiredPages normalized word wordAt mixed step fold fnv1a64 header headerOf blockBytes encode fieldsIn decode encodedLen prefix checksumOf seal storeIn freshBlock blockRuns checksumIn judgeBlock loadBlock imageCount imageNumbers within merge insert add around piece remove flatRuns put refill tabulate addNumberIf span grownNumbers imageByte imagePage pushRun raw overByte budgetBytes raised touch blank copy stretch patch finish grow growTo chop tail truncated wholePage overWrite written fresh lookUp sized passing marked tryTouch tryPatch tryFinish tryGrow tryGrowTo tryTail tryChop tryTruncate tryWrite frameCount entryCount wiped cached shortBuffers view overlayOf putBack stored realCodec importing stale refreshing marks afterCommit short storePlan noOverlay imageBytes unchanged plannedRuns commitOver store outside open′ additions lentFresh opened
+unfolding count zeros overwrite resize growMemory requiredPages normalized word wordAt mixed step fold fnv1a64 header headerOf blockBytes encode fieldsIn decode encodedLen prefix checksumOf seal storeIn freshBlock blockRuns checksumIn judgeBlock loadBlock imageCount imageNumbers within merge insert add around piece remove flatRuns put refill tabulate addNumberIf span grownNumbers imageByte imagePage pushRun raw overByte budgetBytes raised touch blank copy stretch patch finish grow growTo chop tail truncated wholePage overWrite written fresh lookUp sized passing marked tryTouch tryPatch tryFinish tryGrow tryGrowTo tryTail tryChop tryTruncate tryWrite frameCount entryCount wiped cached shortBuffers view overlayOf putBack stored realCodec importing stale refreshing marks afterCommit short storePlan noOverlay imageBytes unchanged plannedRuns commitOver store outside openImage closing open′ additions lentFresh opened
 row9 = refl
 
 -- 20 "by its last page": base + size itself still fits, the end of the page that it ends in does not
@@ -174,7 +174,7 @@ pub record ByLastPage (base size : ℕ) : Type 0 where
   pub page-does-not : 18446744073709551615 < base + (size / 16384 + 1) * 16384
 
 pub last-page : ByLastPage (opened 1 .state .block .«db_base_offset») 18446744073709486079
-unfolding count zeros overwrite resize growMemory requiredPages normalized word wordAt mixed step fold fnv1a64 header headerOf blockBytes encode fieldsIn decode encodedLen prefix checksumOf seal storeIn freshBlock blockRuns checksumIn judgeBlock loadBlock imageCount imageNumbers within merge insert add around piece remove flatRuns put refill tabulate addNumberIf span grownNumbers imageByte imagePage pushRun raw overByte budgetBytes raised touch blank copy stretch patch finish grow growTo chop tail truncated wholePage overWrite written fresh lookUp sized passing marked tryTouch tryPatch tryFinish tryGrow tryGrowTo tryTail tryChop tryTruncate tryWrite frameCount entryCount wiped cached shortBuffers view overlayOf putBack stored realCodec importing stale refreshing marks afterCommit short storePlan noOverlay imageBytes unchanged plannedRuns commitOver store outside open′ additions lentFresh opened
+unfolding count zeros overwrite resize growMemory requiredPages normalized word wordAt mixed step fold fnv1a64 header headerOf blockBytes encode fieldsIn decode encodedLen prefix checksumOf seal storeIn freshBlock blockRuns checksumIn judgeBlock loadBlock imageCount imageNumbers within merge insert add around piece remove flatRuns put refill tabulate addNumberIf span grownNumbers imageByte imagePage pushRun raw overByte budgetBytes raised touch blank copy stretch patch finish grow growTo chop tail truncated wholePage overWrite written fresh lookUp sized passing marked tryTouch tryPatch tryFinish tryGrow tryGrowTo tryTail tryChop tryTruncate tryWrite frameCount entryCount wiped cached shortBuffers view overlayOf putBack stored realCodec importing stale refreshing marks afterCommit short storePlan noOverlay imageBytes unchanged plannedRuns commitOver store outside openImage closing open′ additions lentFresh opened
 last-page = record { size-fits = omega arith; page-does-not = omega arith }
 
 pub fresh-right : Right freshRows

@@ -15,7 +15,6 @@ use Rattle.meta.specs.declared.superblock.Superblock.{Superblock}
 use Rattle.meta.specs.declared.ZeroExtent.{ZeroExtent}
 use Rattle.meta.specs.Runs.{run, runsOf as pairsOf, numbersOf, normalized}
 use Rattle.meta.specs.Block.{magic, ofFields, fieldsOf}
-use Rattle.meta_load.specs.declared.Loaded.{Loaded}
 use Rattle.meta_load.specs.declared.Loaded.the-variants.{Block}
 use Rattle.meta_load.specs.RoundTrip.{Wide, Fits as FitsBlock, stored-accepted}
 use Rattle.meta_load.specs.Load.{load as loadBlock}
@@ -38,7 +37,8 @@ use Rattle.store.specs.Store.{resting, refuse, act, swept, direct, noOverlay, b
 use Rattle.store.specs.Lawful.{Fits}
 use Rattle.store.specs.RealCodec.{real-lawful}
 use Rattle.store.specs.MemoryLaws.{stored-length}
-use Rattle.store.specs.Opening.{outside, notOpened, openLoaded, open′}
+use Rattle.store.specs.Opening.{Opened, outside, notOpened, openLoaded, openImage, open′}
+use Rattle.store.specs.ClosingLaws.{open-unmarked}
 use Rattle.examples.specs.FreshRows.{real, after, started}
 
 -- n runs of one page each, a page apart, from page a on
@@ -136,13 +136,25 @@ module _ (pages : ℕ) (rs : List ZeroExtent) (few : length rs ≡ 1024) (sorted
   unfolding outside blockOf importing
   inside = rw (le-ltb (516 * 65536) (65536 + pages * 16384) (omega arith)) refl
 
-  opened-is : openedRuns pages rs n ≡ out (stateRuns pages rs) (lentRuns pages rs n) Done []
-  unfolding openedRuns stateRuns open′
-  opened-is =
+  -- 01's opening accepts it
+  image-is : openImage 16384 65536 8 1024 18446744073709551615 realCodec 516 (lentRuns pages rs n .mem) ≡ record { state = stateRuns pages rs; answer = Done; mem = lentRuns pages rs n .mem }
+  unfolding stateRuns openImage
+  image-is =
       let m : List ℕ = lentRuns pages rs n .mem in
       rw (le-ltb (length m) (516 * 65536) (omega (arith, lent-long)))
-      (ap (λ (x : Loaded). started (openLoaded 16384 65536 8 1024 18446744073709551615 realCodec 516 m x) (lentRuns pages rs n)) loads
-      ∙ ap (λ (t : Bool). started (cond t (notOpened 16384 65536 8 1024 18446744073709551615 realCodec 516 m ImageOutOfMemory) record { state = stateRuns pages rs; answer = Done; mem = m }) (lentRuns pages rs n)) inside)
+      (ap (openLoaded 16384 65536 8 1024 18446744073709551615 realCodec 516 m) loads
+      ∙ ap (λ (t : Bool). cond t (notOpened 16384 65536 8 1024 18446744073709551615 realCodec 516 m ImageOutOfMemory) record { state = stateRuns pages rs; answer = Done; mem = m }) inside)
+
+  unmarked : importing (stateRuns pages rs .block) ≡ false
+  unfolding stateRuns blockOf importing
+  unmarked = refl
+
+  opened-is : openedRuns pages rs n ≡ out (stateRuns pages rs) (lentRuns pages rs n) Done []
+  unfolding openedRuns
+  opened-is =
+      let m : List ℕ = lentRuns pages rs n .mem in
+      ap (λ (x : Opened). started x (lentRuns pages rs n))
+      (open-unmarked 16384 65536 8 1024 18446744073709551615 realCodec (omega arith) 516 m (ap (λ (x : Opened). importing (x .state .block)) image-is ∙ unmarked) ∙ image-is)
 
   after-opening : (c : Call) (answer : ℕ) → number (real (stateRuns pages rs) (lentRuns pages rs n) c .answer) ≡ answer → AfterOpening pages rs c n answer
   unfolding stateRuns blockOf lentRuns

@@ -14,13 +14,17 @@ use Rattle.store.specs.declared.State.{State}
 use Rattle.store.specs.Codec.{realCodec}
 use Rattle.store.specs.Calls.{Call, fileSize, Lent, Out, number, short, withMem}
 use Rattle.store.specs.Store.{store}
+use Rattle.store.specs.Blocks.{importing}
 use Rattle.store.specs.Opening.{Opened, open′}
+use Rattle.store.specs.RealCodec.{real-lawful}
+use Rattle.store.specs.ClosingLaws.{no-import}
 use Rattle.transfer.specs.OnMemory.{lent}
 use Rattle.encoding.specs.StateBytes.{stateBytes, stateIn, bytes-long}
 use Rattle.encoding.specs.Called.{Shown, showing, pick, stepShown, tooShort, outOf, OpenCalled, openCalled, openShown, openAt}
 use Rattle.plain_file.specs.Plain.{Plain, closed, drafting}
 use Rattle.plain_file.specs.Claim.{Claim}
 use Rattle.plain_file.specs.Sizes.{short′, plainOf, plainStep′, Word′, Lends′, leaves′, atBegin′, Owed′, Nothing′, Turn′, Promise′}
+use Rattle.plain_file.specs.Restored.{opened-file-given}
 use Rattle.plain_file.specs.Demand3.{demand3}
 use Rattle.host_calls.specs.Made.{Made, ByC, AllByC}
 use Rattle.host_calls.specs.CCalls.{CCall, madeAll, all-by-c, COpened, statePassed, memoryPassed, countPassed, answerPassed, stateLeft, memoryLeft, answerLeft, open-by-c, open-typed}
@@ -187,3 +191,20 @@ pub host-demand3 : (o : COpened) → o .gave ≡ 0 → Bytes (memoryPassed o) �
 host-demand3 o ok bytes b w cs =
     host-list (statePassed o) (answerPassed o) (memoryPassed o) (countPassed o) (o .gave) (stateLeft o) (memoryLeft o) (answerLeft o)
     (open-by-c o) ok bytes (open-typed o) b w (madeAll cs) (all-by-c cs)
+
+-- THE OPENING FOR A HOST (02, W-202): `yuharopu_open` returned 0. No import is open in the state that it left, and an image that was there is the plain file
+-- that it was, also if its import was closed
+pub record HostOpens (o : COpened) : Type 0 where
+  pub alone : importing (stateIn (stateLeft o) .block) ≡ false
+  pub same-file : Bytes (memoryPassed o) → (countPassed o ≡ 0 → ⊥) → plainOf (memoryLeft o) ≡ plainOf (memoryPassed o)
+
+pub host-opens : (o : COpened) → o .gave ≡ 0 → HostOpens o
+host-opens o ok =
+    let x : Opened = open′ 16384 65536 8 1024 18446744073709551615 realCodec (countPassed o) (memoryPassed o) in
+    let p : Opens (stateLeft o) (memoryLeft o) x =
+    opens (statePassed o) (answerPassed o) (memoryPassed o) (countPassed o) (o .gave) (stateLeft o) (memoryLeft o) (answerLeft o) (open-by-c o) ok in
+    record {
+      alone = ap (λ (s : State). importing (s .block)) (p .state) ∙ no-import 16384 65536 8 1024 18446744073709551615 realCodec (omega arith) (countPassed o) (memoryPassed o);
+      same-file = λ bytes some. ap plainOf (p .mem)
+          ∙ ap closed (opened-file-given 16384 65536 8 1024 18446744073709551615 realCodec (omega arith) (omega arith) real-lawful (countPassed o) (memoryPassed o) bytes (open-typed o) some (p .accepted));
+    }

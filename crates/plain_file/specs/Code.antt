@@ -2,6 +2,8 @@
 -- can pass.
 use mathlib.Core.Path.{_≡_, sym, ap, _∙_, subst}
 use Prim.Native.Nat.{ℕ, _*_}
+use native.Mathlib.Omega.{arith}
+use mathlib.Core.Bool.{false}
 use mathlib.Core.List.{List, [], _∷_}
 use lib.ListN.{take}
 use Rattle.memory.specs.Laws.{split}
@@ -10,13 +12,17 @@ use Rattle.update.specs.Buffers.{Buffers}
 use Rattle.store.specs.declared.State.{State}
 use Rattle.store.specs.Codec.{realCodec}
 use Rattle.store.specs.Calls.{Call, Lent, Out, number}
+use Rattle.store.specs.Blocks.{importing}
 use Rattle.store.specs.Opening.{Opened, open′}
+use Rattle.store.specs.RealCodec.{real-lawful}
+use Rattle.store.specs.ClosingLaws.{no-import, refused-unchanged}
 use Rattle.transfer.specs.OnMemory.{lent}
 use Rattle.lending.specs.Lending.{calls}
 use Rattle.opening.specs.Opened.{opened}
-use Rattle.plain_file.specs.Plain.{Plain}
+use Rattle.plain_file.specs.Plain.{Plain, closed}
 use Rattle.plain_file.specs.Claim.{Claim}
 use Rattle.plain_file.specs.Sizes.{short′, plainOf, plainStep′, told′, Word′, Lends′, leaves′, atBegin′, Owed′, Nothing′, Enough′, choose′, Turn′, Promise′}
+use Rattle.plain_file.specs.Restored.{opened-file-given}
 use Rattle.plain_file.specs.Demand3.{demand3}
 use Rattle.plain_file.specs.BlobCalls.{Made, BlobCall, madeOf, by-blob, typed, BlobOpened, memoryPassed, countPassed, memoryLeft, by-open, open-typed}
 
@@ -91,3 +97,25 @@ demand3-calls o ok bytes b w cs =
     demand3 (countPassed o) (lent (memoryPassed o) b w) bytes (open-typed o) accepted (turns (madeAll cs)) in
     keeps (o .gave .state) (plainOf (memoryLeft o)) [] (lent (memoryLeft o) b w) (madeAll cs) (all-gave cs)
     (subst (λ (z : Opened). Promise′ (z .state) (plainOf (z .mem)) [] (lent (z .mem) b w) (turns (madeAll cs))) is g)
+
+-- ## The opening by itself (02, W-202)
+
+-- whatever `open` answered: no import is open in the state that it gave
+pub open-alone : (o : BlobOpened) → importing (o .gave .state .block) ≡ false
+open-alone o =
+    ap (λ (x : Opened). importing (x .state .block)) (by-open o)
+    ∙ no-import 16384 65536 8 1024 18446744073709551615 realCodec (omega arith) (countPassed o) (memoryPassed o)
+
+-- refused, it left memory as it was
+pub open-refused : (o : BlobOpened) → (number (o .gave .answer) ≡ 0 → ⊥) → memoryLeft o ≡ memoryPassed o
+open-refused o refused =
+    ap (λ (x : Opened). x .mem) (by-open o)
+    ∙ refused-unchanged 16384 65536 8 1024 18446744073709551615 realCodec (omega arith) (countPassed o) (memoryPassed o)
+    (λ e. refused (ap (λ (x : Opened). number (x .answer)) (by-open o) ∙ e))
+
+-- accepted, an image that was there is the plain file that it was, also if its import was closed
+pub open-keeps : (o : BlobOpened) → number (o .gave .answer) ≡ 0 → Bytes (memoryPassed o) → (countPassed o ≡ 0 → ⊥) → plainOf (memoryLeft o) ≡ plainOf (memoryPassed o)
+open-keeps o ok bytes some =
+    ap (λ (x : Opened). plainOf (x .mem)) (by-open o)
+    ∙ ap closed (opened-file-given 16384 65536 8 1024 18446744073709551615 realCodec (omega arith) (omega arith) real-lawful (countPassed o) (memoryPassed o) bytes (open-typed o) some
+    (sym (ap (λ (x : Opened). number (x .answer)) (by-open o)) ∙ ok))

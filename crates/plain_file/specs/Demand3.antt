@@ -15,7 +15,8 @@ use Rattle.store.specs.Calls.{Call, Lent, Out, uses, Mode, modeIf, modeOf, shor
 use Rattle.store.specs.Store.{refuse, act, swept, store}
 use Rattle.store.specs.Opening.{open′}
 use Rattle.store.specs.Lawful.{Lawful, Good}
-use Rattle.store.specs.OpeningLaws.{Opens, opens}
+use Rattle.store.specs.OpeningLaws.{Opens}
+use Rattle.store.specs.ClosingLaws.{opens}
 use Rattle.store.specs.BufferLengths.{count-lent, buffers-again}
 use Rattle.store.specs.RealCodec.{real-lawful}
 use Rattle.plain_file.specs.Plain.{Plain, closed, drafting, fileOf, plainStep}
@@ -75,7 +76,7 @@ module _ (P S C L M : ℕ) (k : Codec) (pos : 0 < P) (spos : 0 < S) (wide : P �
   pub meets : Claim P S C L M k ours
   unfolding Claim
   meets n w bytes most ok ts =
-      let x : Opens P S C L M k spos laws (open′ P S C L M k n (w .mem)) = opens P S C L M k spos laws n (w .mem) bytes most ok in
+      let x : Opens P S C L M k spos laws (open′ P S C L M k n (w .mem)) = opens P S C L M k spos n (w .mem) laws bytes most ok in
       keeps (open′ P S C L M k n (w .mem) .state) (closed (fileOf P S L M k (open′ P S C L M k n (w .mem) .mem))) [] (withMem (open′ P S C L M k n (w .mem) .mem) w)
       (subst (λ (u : Bool). InvMode P S C L M k (modeIf u (open′ P S C L M k n (w .mem) .state .overlay)) (open′ P S C L M k n (w .mem) .state) (closed (fileOf P S L M k (open′ P S C L M k n (w .mem) .mem))) [] (withMem (open′ P S C L M k n (w .mem) .mem) w))
       (sym (x .idle)) (x .good, refl))

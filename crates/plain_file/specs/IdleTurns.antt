@@ -7,7 +7,7 @@ use mathlib.Core.Bool.{Bool, true, false, not, cond, _&&_, _||_}
 use mathlib.Core.List.{List, [], _∷_, _++_}
 use lib.Dec.{ltb, leb, eqb}
 use lib.ListN.{length, getD, take, drop, List·getD-eq-default}
-use borrow.Author.Tests.{ltb-true, ltb-false, eqb-true, eqb-false, lt-ltb, ne-eqb}
+use borrow.Author.Tests.{ltb-true, ltb-false, eqb-true, eqb-false, ne-eqb}
 use Rattle.config.specs.Refusals.{numbersOf}
 use Rattle.config.specs.Pages.{count, page-lo}
 use Rattle.config.specs.declared.refusal.Refusal.{Refusal}
@@ -18,9 +18,7 @@ use Rattle.memory.specs.Growth.{growTo, stable}
 use Rattle.memory.specs.declared.Growth.{Growth}
 use Rattle.memory.specs.declared.Growth.the-variants.{Grown}
 use Rattle.meta.specs.declared.superblock.Superblock.{Superblock}
-use Rattle.meta.specs.declared.ZeroExtent.{ZeroExtent}
 use Rattle.meta.specs.Runs.{normalized-nil}
-use Rattle.runs.specs.Sets.{covers}
 use Rattle.update.specs.declared.Overlay.{Overlay}
 use Rattle.update.specs.declared.Budget.{Budget}
 use Rattle.update.specs.ListLaws.{clash, tests}
@@ -36,15 +34,17 @@ use Rattle.store.specs.Tries.{RefusedBy, write-by, truncate-by}
 use Rattle.store.specs.declared.Answer.{Answer}
 use Rattle.store.specs.declared.Answer.the-variants.{Done, Size, Read, Checksum, Refused}
 use Rattle.store.specs.Codec.{Codec, sealed, stored}
-use Rattle.store.specs.Blocks.{importing, refreshing, afterImportBegin, afterImportChunk, afterImportCancel, afterImportFinish, afterRefresh, afterRefreshStep, Keeps, KeepsImport, ImportBegins, after-begin, begin-keeps, ChunkKeeps, after-chunk, cancel-keeps, after-cancel, Finishes, after-finish, refresh-keeps, refresh-imports, step-keeps, step-imports, seal-importing}
+use Rattle.store.specs.Blocks.{importing, refreshing, afterImportBegin, afterImportChunk, afterImportCancel, afterImportFinish, afterRefresh, afterRefreshStep, Keeps, KeepsImport, ImportBegins, after-begin, begin-keeps, ChunkKeeps, after-chunk, Finishes, after-finish, refresh-keeps, refresh-imports, step-keeps, step-imports, seal-importing}
 use Rattle.store.specs.Calls.{Call, begin, read, write, truncate, commit, rollback, fileSize, importBegin, importChunk, importFinish, importCancel, export, checksum, refresh, refreshStep, Lent, Out, out, number, uses, Mode, idle, update, modeOf, short, cleared, withMem}
-use Rattle.store.specs.Store.{resting, working, onward, budgetOf, runsOf, image, imageBytes, imageSum, over, commitOver, direct, doBegin, restore, doImportBegin, placeChunk, doImportChunk, doImportFinish, doImportCancel, doExport, doChecksum, doRefresh, progress, refreshFrom, doRefreshStep, act, swept}
+use Rattle.store.specs.Store.{resting, working, onward, budgetOf, image, imageBytes, imageSum, over, commitOver, direct, doBegin, restore, doImportBegin, placeChunk, doImportChunk, doImportFinish, doImportCancel, doExport, doChecksum, doRefresh, progress, refreshFrom, doRefreshStep, act, swept}
 use Rattle.store.specs.Lawful.{Fits, Lawful, Good}
-use Rattle.store.specs.MemoryLaws.{Reaches, grow-cases, stored-high, stored-length}
+use Rattle.store.specs.MemoryLaws.{Reaches, grow-cases, stored-length}
+use Rattle.store.specs.RestoreLaws.{Carries, cancel-carries, restore-good}
 use Rattle.plain_file.specs.Plain.{File, Draft, Plain, closed, drafting, copied, draftWrite, draftTruncate, verdictNumber, fileGround, fileOf, changed}
 use Rattle.plain_file.specs.Claim.{Reads, Direct, Lends, leaves, atBegin, Word}
 use Rattle.plain_file.specs.Invariant.{Draws, Inv, good-near, file-near, inv-back}
-use Rattle.plain_file.specs.Ends.{file-is, file-length, file-base, file-runs, file-byte, Committed, committed}
+use Rattle.plain_file.specs.Ends.{file-length, file-byte, Committed, committed}
+use Rattle.plain_file.specs.Restored.{restore-file}
 use Rattle.plain_file.specs.Turns.{Turned, mem-lent, draws-write, draws-truncate, inv-done, inv-swept, closed-inv}
 
 not-false : (a : Bool) → not a ≡ false → a ≡ true
@@ -81,82 +81,6 @@ module _ (P S C L M : ℕ) (k : Codec) (pos : 0 < P) (spos : 0 < S) (wide : P �
   fresh-weak : (x : ℕ → ℕ) (z : ℕ) (b : Budget) → z ≤ M → Weak P C M x (fresh P z b)
   unfolding fresh
   fresh-weak x z b h = record { sized = tt; distinct = tt; cached = tt; few = omega arith; range = h; ends = tt; filled = tt }
-
-  -- ## A block is stored anew
-
-  -- the database stays where it is, and an import that is open then is in order
-  record Carries (c : ℕ) (h h′ : Superblock) : Type 0 where
-    keeps : Keeps h h′
-    import-low : importing h′ ≡ true → S ≤ h′ .«import_base_offset»
-    import-inside : importing h′ ≡ true → h′ .«import_base_offset» + h′ .«import_written_until» ≤ c * S
-    import-range : importing h′ ≡ true → h′ .«import_base_offset» + h′ .«import_total_size» ≤ M
-
-  module _ (c : ℕ) (h h′ : Superblock) (a : List ℕ) (g : Good S L M k c h a) (y : Carries c h h′) where
-    abbrev rs : List ZeroExtent
-    rs = runsOf P S C L M k h′ a
-
-    rs-is : rs ≡ runsOf P S C L M k h a
-    rs-is = ap (λ (n : ℕ). k .runsIn n a) (y .keeps .runs)
-
-    counted : length rs ≡ h′ .«zero_extent_count»
-    counted = ap length rs-is ∙ g .counted ∙ sym (y .keeps .runs)
-
-    carried : Fits L M h′ rs
-    carried = record {
-      few = omega (arith, counted, y .keeps .runs, g .few);
-      counted = sym counted;
-      size = omega (arith, g .range, y .keeps .size);
-      base = omega (arith, g .range, y .keeps .base);
-      ends = rw rs-is (g .ends);
-      sorted = rw rs-is (g .sorted);
-    }
-
-    long : S ≤ length a
-    long = omega (arith, g .base-low, g .inside, g .lent)
-
-    abbrev now : List ℕ
-    now = stored k h′ rs a
-
-    runs-now : runsOf P S C L M k h′ now ≡ rs
-    runs-now = ap (λ (n : ℕ). k .runsIn n now) (sym counted) ∙ laws .runs-is h′ rs a carried long
-
-    was : importing (sealed k h′ rs) ≡ true → importing h′ ≡ true
-    was z = sym (seal-importing (k .sum h′ rs) h′) ∙ z
-
-    restore-good : Good S L M k c (sealed k h′ rs) now
-    restore-good = record {
-      size-is = laws .size-is h′ rs a carried long;
-      base-is = laws .base-is h′ rs a carried long;
-      count-is = laws .count-is h′ rs a carried long ∙ counted;
-      counted = ap length runs-now ∙ counted;
-      few = omega (arith, y .keeps .runs, g .few);
-      sorted = rw runs-now (carried .sorted);
-      ends = rw runs-now (carried .ends);
-      base-low = omega (arith, g .base-low, y .keeps .base);
-      inside = omega (arith, g .inside, y .keeps .base, y .keeps .size);
-      range = omega (arith, g .range, y .keeps .base, y .keeps .size);
-      lent = omega (arith, g .lent, stored-length S L M k laws h′ rs carried a);
-      import-low = λ z. y .import-low (was z);
-      import-inside = λ z. y .import-inside (was z);
-      import-range = λ z. y .import-range (was z);
-    }
-
-    restore-file : fileOf P S L M k now ≡ fileOf P S L M k a
-    unfolding imageByte
-    restore-file =
-        let f : File = fileOf P S L M k a in
-        let z : length (f .bytes) ≡ h .«db_size» = file-length P S C L M k pos spos laws c h a g in
-        let b : f .base ≡ h .«db_base_offset» = file-base P S C L M k pos spos laws c h a g in
-        let r : f .runs ≡ runsOf P S C L M k h a = file-runs P S C L M k pos spos laws c h a g in
-        file-is P S L M k now f
-        (laws .size-is h′ rs a carried long ∙ y .keeps .size ∙ sym z)
-        (laws .base-is h′ rs a carried long ∙ y .keeps .base ∙ sym b)
-        (ap (λ (n : ℕ). k .runsIn n now) (laws .count-is h′ rs a carried long) ∙ laws .runs-is h′ rs a carried long ∙ rs-is ∙ sym r)
-        (λ o j. let lt : o < h .«db_size» = omega arith in
-        let e1 : getD now (f .base + o) 0 ≡ getD a (h .«db_base_offset» + o) 0 =
-        stored-high S L M k laws h′ rs carried a (f .base + o) (omega (arith, g .base-low)) ∙ ap (λ (x : ℕ). getD a (x + o) 0) b in
-        (λ i. cond (covers (r i) (o / P)) 0 (e1 i))
-        ∙ sym (file-byte P S C L M k pos spos laws c h a g o lt ∙ rw (imageByte, lt-ltb o (h .«db_size») lt)))
 
   -- ## The turns with no update open
 
@@ -324,19 +248,19 @@ module _ (P S C L M : ℕ) (k : Codec) (pos : 0 < P) (spos : 0 < S) (wide : P �
 
     module _ (g : Good S L M k c h (l .mem)) (q : f ≡ fileOf P S L M k (l .mem)) where
       -- a block stored, the plain file as it was
-      kept-inv : (h′ : Superblock) (r : Answer) → Carries c h h′ → Inv P S C L M k (restore P S C L M k s l h′ r .state) (closed f) m (leaves P S C L M k (restore P S C L M k s l h′ r .lent) w)
+      kept-inv : (h′ : Superblock) (r : Answer) → Carries S M c h h′ → Inv P S C L M k (restore P S C L M k s l h′ r .state) (closed f) m (leaves P S C L M k (restore P S C L M k s l h′ r .lent) w)
       unfolding restore
-      kept-inv h′ r y = inv-done P S C L M k pos spos laws (restore P S C L M k s l h′ r) (closed f) m w (restore-good c h h′ (l .mem) g y, q ∙ sym (restore-file c h h′ (l .mem) g y))
+      kept-inv h′ r y = inv-done P S C L M k pos spos laws (restore P S C L M k s l h′ r) (closed f) m w (restore-good P S C L M k laws c h h′ (l .mem) g y, q ∙ sym (restore-file P S C L M k pos spos laws c h h′ (l .mem) g y))
 
       -- or set from memory
-      set-inv : (h′ : Superblock) (r : Answer) → Carries c h h′ → Inv P S C L M k (restore P S C L M k s l h′ r .state) (closed (fileOf P S L M k (restore P S C L M k s l h′ r .lent .mem))) [] (leaves P S C L M k (restore P S C L M k s l h′ r .lent) w)
+      set-inv : (h′ : Superblock) (r : Answer) → Carries S M c h h′ → Inv P S C L M k (restore P S C L M k s l h′ r .state) (closed (fileOf P S L M k (restore P S C L M k s l h′ r .lent .mem))) [] (leaves P S C L M k (restore P S C L M k s l h′ r .lent) w)
       unfolding restore
-      set-inv h′ r y = inv-done P S C L M k pos spos laws (restore P S C L M k s l h′ r) (closed (fileOf P S L M k (restore P S C L M k s l h′ r .lent .mem))) [] w (restore-good c h h′ (l .mem) g y, refl)
+      set-inv h′ r y = inv-done P S C L M k pos spos laws (restore P S C L M k s l h′ r) (closed (fileOf P S L M k (restore P S C L M k s l h′ r .lent .mem))) [] w (restore-good P S C L M k laws c h h′ (l .mem) g y, refl)
 
       stable-low : S ≤ c * S
       stable-low = omega (arith, g .base-low, g .inside)
 
-      import-carries : (a b : ℕ) → c * S + a ≤ M → Carries c h (afterImportBegin a b (c * S) h)
+      import-carries : (a b : ℕ) → c * S + a ≤ M → Carries S M c h (afterImportBegin a b (c * S) h)
       import-carries a b r =
           let n : ImportBegins a (c * S) (afterImportBegin a b (c * S) h) = after-begin a b (c * S) h in
           record {
@@ -346,11 +270,8 @@ module _ (P S C L M : ℕ) (k : Codec) (pos : 0 < P) (spos : 0 < S) (wide : P �
             import-range = λ z. omega (arith, n .base-is, n .total-is);
           }
 
-      cancel-carries : Carries c h (afterImportCancel h)
-      cancel-carries = record { keeps = cancel-keeps h; import-low = λ z. clash z (after-cancel h); import-inside = λ z. clash z (after-cancel h); import-range = λ z. clash z (after-cancel h) }
-
       -- an import is what it was
-      same-carries : (h′ : Superblock) → Keeps h h′ → KeepsImport h h′ → Carries c h h′
+      same-carries : (h′ : Superblock) → Keeps h h′ → KeepsImport h h′ → Carries S M c h h′
       same-carries h′ a b = record {
         keeps = a;
         import-low = λ z. omega (arith, g .import-low (sym (b .mark) ∙ z), b .base);
@@ -374,7 +295,7 @@ module _ (P S C L M : ℕ) (k : Codec) (pos : 0 < P) (spos : 0 < S) (wide : P �
           let Q : Out → Type 0 = λ z. Turned P S C L M k (closed f) m importCancel l z w in
           by-test Q (not (importing h)) _ _
           (λ x. record { owed = tt; inv = same })
-          (λ n. record { owed = tt; inv = set-inv (afterImportCancel h) Done cancel-carries })
+          (λ n. record { owed = tt; inv = set-inv (afterImportCancel h) Done (cancel-carries S M c h) })
 
       refresh-turn : Turned P S C L M k (closed f) m refresh l (doRefresh P S C L M k s l) w
       unfolding doRefresh restore
@@ -442,7 +363,7 @@ module _ (P S C L M : ℕ) (k : Codec) (pos : 0 < P) (spos : 0 < S) (wide : P �
           (λ a. by-test Q (not (eqb (h .«import_written_until») (h .«import_total_size»))) _ _
           (λ e. record { owed = tt; inv = same })
           (λ e. by-test Q (not (eqb x (h .«import_expected_checksum»))) _ _
-          (λ d. record { owed = tt; inv = kept-inv (afterImportCancel h) (Refused (ChecksumMismatch (h .«import_expected_checksum») x)) cancel-carries })
+          (λ d. record { owed = tt; inv = kept-inv (afterImportCancel h) (Refused (ChecksumMismatch (h .«import_expected_checksum») x)) (cancel-carries S M c h) })
           (λ d. record {
             owed = tt;
             inv = inv-done P S C L M k pos spos laws (out (onward s c (sealed k b [])) (withMem (stored k b [] (l .mem)) l) Done []) (closed (fileOf P S L M k (stored k b [] (l .mem)))) [] w
@@ -485,7 +406,7 @@ module _ (P S C L M : ℕ) (k : Codec) (pos : 0 < P) (spos : 0 < S) (wide : P �
           import-range = g .import-range;
         }
 
-        chunk-carries : Carries r h (afterImportChunk (o + length bs) h)
+        chunk-carries : Carries S M r h (afterImportChunk (o + length bs) h)
         chunk-carries =
             let n : ChunkKeeps (o + length bs) h (afterImportChunk (o + length bs) h) = after-chunk (o + length bs) h in
             record {
@@ -501,7 +422,7 @@ module _ (P S C L M : ℕ) (k : Codec) (pos : 0 < P) (spos : 0 < S) (wide : P �
             let x : Out = restore P S C L M k (onward s r h) (withMem put l) (afterImportChunk (o + length bs) h) Done in
             record {
               owed = tt;
-              inv = inv-done P S C L M k pos spos laws x (closed (fileOf P S L M k (x .lent .mem))) [] w (restore-good r h (afterImportChunk (o + length bs) h) put chunk-good chunk-carries, refl);
+              inv = inv-done P S C L M k pos spos laws x (closed (fileOf P S L M k (x .lent .mem))) [] w (restore-good P S C L M k laws r h (afterImportChunk (o + length bs) h) put chunk-good chunk-carries, refl);
             }
 
       import-chunk : (o : ℕ) (bs : List ℕ) → Turned P S C L M k (closed f) m (importChunk o bs) l (doImportChunk P S C L M k s l o bs) w

@@ -4,6 +4,7 @@ pub mod Claim
 pub mod Sizes
 pub mod Invariant
 pub mod Ends
+pub mod Restored
 pub mod Turns
 pub mod IdleTurns
 pub mod Demand3

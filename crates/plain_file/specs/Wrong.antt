@@ -35,7 +35,7 @@ use Rattle.store.specs.Blocks.{importing, stale, refreshing, marks, afterCommit
 use Rattle.store.specs.Calls.{Call, begin, read, write, truncate, commit, rollback, fileSize, importBegin, importChunk, importFinish, importCancel, export, checksum, refresh, refreshStep, Lent, Out, out, number, Mode, idle, update, modeOf, short, withMem, withBuffers}
 use Rattle.store.specs.Plan.{storePlan}
 use Rattle.store.specs.Store.{refuse, working, noOverlay, ended, image, imageBytes, over, unchanged, plannedRuns, commitOver, inUpdate, store}
-use Rattle.store.specs.Opening.{outside, open′}
+use Rattle.store.specs.Opening.{outside, openImage, closing, open′}
 use Rattle.plain_file.specs.Plain.{closed, copied, spoil, newRun, pagesWith, endsWithin, grownDirty, draftWrite, draftTruncate, ground, fileGround, fileOf}
 use Rattle.plain_file.specs.Claim.{Step, Lends, laid, leaves, Turn, Promise, Claim}
 use Rattle.plain_file.specs.Demand3.{meets}
@@ -95,27 +95,27 @@ all-bytes (x ∷ l) h (suc i) = split (ltb x 256) (λ t. all-bytes l (rw t at h)
 
 -- both images are accepted
 accepted4 : number (open′ 2 24 1 3 1000 smallCodec 2 (lentWith 4 .mem) .answer) ≡ 0
-unfolding count zeros overwrite resize growMemory requiredPages normalized within merge insert add around remove flatRuns additions addOne remain plan put refill tabulate addNumberIf span grownNumbers imageByte imagePage pushRun raw overByte budgetBytes raised touch blank copy stretch patch finish grow growTo chop tail truncated wholePage overWrite written fresh lookUp sized passing marked tryTouch tryPatch tryFinish tryGrow tryGrowTo tryTail tryChop tryTruncate tryWrite frameCount entryCount wiped cached shortBuffers view overlayOf putBack stored smallCodec smallSum smallDecode smallRuns smallLoad smallFresh importing stale refreshing marks afterCommit short storePlan noOverlay imageBytes unchanged plannedRuns commitOver store outside open′ copied spoil newRun pagesWith endsWithin grownDirty draftWrite draftTruncate ground fileGround fileOf laid leaves lentWith
+unfolding count zeros overwrite resize growMemory requiredPages normalized within merge insert add around remove flatRuns additions addOne remain plan put refill tabulate addNumberIf span grownNumbers imageByte imagePage pushRun raw overByte budgetBytes raised touch blank copy stretch patch finish grow growTo chop tail truncated wholePage overWrite written fresh lookUp sized passing marked tryTouch tryPatch tryFinish tryGrow tryGrowTo tryTail tryChop tryTruncate tryWrite frameCount entryCount wiped cached shortBuffers view overlayOf putBack stored smallCodec smallSum smallDecode smallRuns smallLoad smallFresh importing stale refreshing marks afterCommit short storePlan noOverlay imageBytes unchanged plannedRuns commitOver store outside openImage closing open′ copied spoil newRun pagesWith endsWithin grownDirty draftWrite draftTruncate ground fileGround fileOf laid leaves lentWith
 accepted4 = refl
 
 accepted3 : number (open′ 2 24 1 3 1000 smallCodec 2 (lentWith 3 .mem) .answer) ≡ 0
-unfolding count zeros overwrite resize growMemory requiredPages normalized within merge insert add around remove flatRuns additions addOne remain plan put refill tabulate addNumberIf span grownNumbers imageByte imagePage pushRun raw overByte budgetBytes raised touch blank copy stretch patch finish grow growTo chop tail truncated wholePage overWrite written fresh lookUp sized passing marked tryTouch tryPatch tryFinish tryGrow tryGrowTo tryTail tryChop tryTruncate tryWrite frameCount entryCount wiped cached shortBuffers view overlayOf putBack stored smallCodec smallSum smallDecode smallRuns smallLoad smallFresh importing stale refreshing marks afterCommit short storePlan noOverlay imageBytes unchanged plannedRuns commitOver store outside open′ copied spoil newRun pagesWith endsWithin grownDirty draftWrite draftTruncate ground fileGround fileOf laid leaves lentWith
+unfolding count zeros overwrite resize growMemory requiredPages normalized within merge insert add around remove flatRuns additions addOne remain plan put refill tabulate addNumberIf span grownNumbers imageByte imagePage pushRun raw overByte budgetBytes raised touch blank copy stretch patch finish grow growTo chop tail truncated wholePage overWrite written fresh lookUp sized passing marked tryTouch tryPatch tryFinish tryGrow tryGrowTo tryTail tryChop tryTruncate tryWrite frameCount entryCount wiped cached shortBuffers view overlayOf putBack stored smallCodec smallSum smallDecode smallRuns smallLoad smallFresh importing stale refreshing marks afterCommit short storePlan noOverlay imageBytes unchanged plannedRuns commitOver store outside openImage closing open′ copied spoil newRun pagesWith endsWithin grownDirty draftWrite draftTruncate ground fileGround fileOf laid leaves lentWith
 accepted3 = refl
 
 bytes4 : allBytes (lentWith 4 .mem) ≡ true
-unfolding count zeros overwrite resize growMemory requiredPages normalized within merge insert add around remove flatRuns additions addOne remain plan put refill tabulate addNumberIf span grownNumbers imageByte imagePage pushRun raw overByte budgetBytes raised touch blank copy stretch patch finish grow growTo chop tail truncated wholePage overWrite written fresh lookUp sized passing marked tryTouch tryPatch tryFinish tryGrow tryGrowTo tryTail tryChop tryTruncate tryWrite frameCount entryCount wiped cached shortBuffers view overlayOf putBack stored smallCodec smallSum smallDecode smallRuns smallLoad smallFresh importing stale refreshing marks afterCommit short storePlan noOverlay imageBytes unchanged plannedRuns commitOver store outside open′ copied spoil newRun pagesWith endsWithin grownDirty draftWrite draftTruncate ground fileGround fileOf laid leaves lentWith
+unfolding count zeros overwrite resize growMemory requiredPages normalized within merge insert add around remove flatRuns additions addOne remain plan put refill tabulate addNumberIf span grownNumbers imageByte imagePage pushRun raw overByte budgetBytes raised touch blank copy stretch patch finish grow growTo chop tail truncated wholePage overWrite written fresh lookUp sized passing marked tryTouch tryPatch tryFinish tryGrow tryGrowTo tryTail tryChop tryTruncate tryWrite frameCount entryCount wiped cached shortBuffers view overlayOf putBack stored smallCodec smallSum smallDecode smallRuns smallLoad smallFresh importing stale refreshing marks afterCommit short storePlan noOverlay imageBytes unchanged plannedRuns commitOver store outside openImage closing open′ copied spoil newRun pagesWith endsWithin grownDirty draftWrite draftTruncate ground fileGround fileOf laid leaves lentWith
 bytes4 = refl
 
 bytes3 : allBytes (lentWith 3 .mem) ≡ true
-unfolding count zeros overwrite resize growMemory requiredPages normalized within merge insert add around remove flatRuns additions addOne remain plan put refill tabulate addNumberIf span grownNumbers imageByte imagePage pushRun raw overByte budgetBytes raised touch blank copy stretch patch finish grow growTo chop tail truncated wholePage overWrite written fresh lookUp sized passing marked tryTouch tryPatch tryFinish tryGrow tryGrowTo tryTail tryChop tryTruncate tryWrite frameCount entryCount wiped cached shortBuffers view overlayOf putBack stored smallCodec smallSum smallDecode smallRuns smallLoad smallFresh importing stale refreshing marks afterCommit short storePlan noOverlay imageBytes unchanged plannedRuns commitOver store outside open′ copied spoil newRun pagesWith endsWithin grownDirty draftWrite draftTruncate ground fileGround fileOf laid leaves lentWith
+unfolding count zeros overwrite resize growMemory requiredPages normalized within merge insert add around remove flatRuns additions addOne remain plan put refill tabulate addNumberIf span grownNumbers imageByte imagePage pushRun raw overByte budgetBytes raised touch blank copy stretch patch finish grow growTo chop tail truncated wholePage overWrite written fresh lookUp sized passing marked tryTouch tryPatch tryFinish tryGrow tryGrowTo tryTail tryChop tryTruncate tryWrite frameCount entryCount wiped cached shortBuffers view overlayOf putBack stored smallCodec smallSum smallDecode smallRuns smallLoad smallFresh importing stale refreshing marks afterCommit short storePlan noOverlay imageBytes unchanged plannedRuns commitOver store outside openImage closing open′ copied spoil newRun pagesWith endsWithin grownDirty draftWrite draftTruncate ground fileGround fileOf laid leaves lentWith
 bytes3 = refl
 
 long4 : length (lentWith 4 .mem) ≤ 1000
-unfolding count zeros overwrite resize growMemory requiredPages normalized within merge insert add around remove flatRuns additions addOne remain plan put refill tabulate addNumberIf span grownNumbers imageByte imagePage pushRun raw overByte budgetBytes raised touch blank copy stretch patch finish grow growTo chop tail truncated wholePage overWrite written fresh lookUp sized passing marked tryTouch tryPatch tryFinish tryGrow tryGrowTo tryTail tryChop tryTruncate tryWrite frameCount entryCount wiped cached shortBuffers view overlayOf putBack stored smallCodec smallSum smallDecode smallRuns smallLoad smallFresh importing stale refreshing marks afterCommit short storePlan noOverlay imageBytes unchanged plannedRuns commitOver store outside open′ copied spoil newRun pagesWith endsWithin grownDirty draftWrite draftTruncate ground fileGround fileOf laid leaves lentWith
+unfolding count zeros overwrite resize growMemory requiredPages normalized within merge insert add around remove flatRuns additions addOne remain plan put refill tabulate addNumberIf span grownNumbers imageByte imagePage pushRun raw overByte budgetBytes raised touch blank copy stretch patch finish grow growTo chop tail truncated wholePage overWrite written fresh lookUp sized passing marked tryTouch tryPatch tryFinish tryGrow tryGrowTo tryTail tryChop tryTruncate tryWrite frameCount entryCount wiped cached shortBuffers view overlayOf putBack stored smallCodec smallSum smallDecode smallRuns smallLoad smallFresh importing stale refreshing marks afterCommit short storePlan noOverlay imageBytes unchanged plannedRuns commitOver store outside openImage closing open′ copied spoil newRun pagesWith endsWithin grownDirty draftWrite draftTruncate ground fileGround fileOf laid leaves lentWith
 long4 = omega arith
 
 long3 : length (lentWith 3 .mem) ≤ 1000
-unfolding count zeros overwrite resize growMemory requiredPages normalized within merge insert add around remove flatRuns additions addOne remain plan put refill tabulate addNumberIf span grownNumbers imageByte imagePage pushRun raw overByte budgetBytes raised touch blank copy stretch patch finish grow growTo chop tail truncated wholePage overWrite written fresh lookUp sized passing marked tryTouch tryPatch tryFinish tryGrow tryGrowTo tryTail tryChop tryTruncate tryWrite frameCount entryCount wiped cached shortBuffers view overlayOf putBack stored smallCodec smallSum smallDecode smallRuns smallLoad smallFresh importing stale refreshing marks afterCommit short storePlan noOverlay imageBytes unchanged plannedRuns commitOver store outside open′ copied spoil newRun pagesWith endsWithin grownDirty draftWrite draftTruncate ground fileGround fileOf laid leaves lentWith
+unfolding count zeros overwrite resize growMemory requiredPages normalized within merge insert add around remove flatRuns additions addOne remain plan put refill tabulate addNumberIf span grownNumbers imageByte imagePage pushRun raw overByte budgetBytes raised touch blank copy stretch patch finish grow growTo chop tail truncated wholePage overWrite written fresh lookUp sized passing marked tryTouch tryPatch tryFinish tryGrow tryGrowTo tryTail tryChop tryTruncate tryWrite frameCount entryCount wiped cached shortBuffers view overlayOf putBack stored smallCodec smallSum smallDecode smallRuns smallLoad smallFresh importing stale refreshing marks afterCommit short storePlan noOverlay imageBytes unchanged plannedRuns commitOver store outside openImage closing open′ copied spoil newRun pagesWith endsWithin grownDirty draftWrite draftTruncate ground fileGround fileOf laid leaves lentWith
 long3 = omega arith
 
 promised4 : (step : Step) → Small step → (cs : List Call) → Promised step 4 cs
@@ -171,7 +171,7 @@ unfoldable sizeOnlyCalls : List Call
 sizeOnlyCalls = begin0 ∷ write 0 (9 ∷ []) ∷ commit ∷ read 0 (zeros 3) ∷ []
 
 sizeOnly-shows : Promised sizeOnly 4 sizeOnlyCalls → _≡_ {A = List ℕ} (5 ∷ 6 ∷ 7 ∷ []) (9 ∷ 6 ∷ 7 ∷ [])
-unfolding count zeros overwrite resize growMemory requiredPages normalized within merge insert add around remove flatRuns additions addOne remain plan put refill tabulate addNumberIf span grownNumbers imageByte imagePage pushRun raw overByte budgetBytes raised touch blank copy stretch patch finish grow growTo chop tail truncated wholePage overWrite written fresh lookUp sized passing marked tryTouch tryPatch tryFinish tryGrow tryGrowTo tryTail tryChop tryTruncate tryWrite frameCount entryCount wiped cached shortBuffers view overlayOf putBack stored smallCodec smallSum smallDecode smallRuns smallLoad smallFresh importing stale refreshing marks afterCommit short storePlan noOverlay imageBytes unchanged plannedRuns commitOver store outside open′ copied spoil newRun pagesWith endsWithin grownDirty draftWrite draftTruncate ground fileGround fileOf laid leaves lentWith right begin0 sizeOnlyCalls sizeOnly
+unfolding count zeros overwrite resize growMemory requiredPages normalized within merge insert add around remove flatRuns additions addOne remain plan put refill tabulate addNumberIf span grownNumbers imageByte imagePage pushRun raw overByte budgetBytes raised touch blank copy stretch patch finish grow growTo chop tail truncated wholePage overWrite written fresh lookUp sized passing marked tryTouch tryPatch tryFinish tryGrow tryGrowTo tryTail tryChop tryTruncate tryWrite frameCount entryCount wiped cached shortBuffers view overlayOf putBack stored smallCodec smallSum smallDecode smallRuns smallLoad smallFresh importing stale refreshing marks afterCommit short storePlan noOverlay imageBytes unchanged plannedRuns commitOver store outside openImage closing open′ copied spoil newRun pagesWith endsWithin grownDirty draftWrite draftTruncate ground fileGround fileOf laid leaves lentWith right begin0 sizeOnlyCalls sizeOnly
 sizeOnly-shows h = h (lends-self _ _) tt .2 (lends-self _ _) tt .2 (lends-self _ _) tt .2 (lends-self _ _) tt .0 .shown
 
 pub sizeOnly-fails : Small sizeOnly → ⊥
@@ -195,7 +195,7 @@ unfoldable idlerCalls : List Call
 idlerCalls = begin0 ∷ write 0 (9 ∷ []) ∷ commit ∷ read 0 (zeros 3) ∷ []
 
 idler-shows : Promised idler 4 idlerCalls → _≡_ {A = List ℕ} (5 ∷ 6 ∷ 7 ∷ []) (9 ∷ 6 ∷ 7 ∷ [])
-unfolding count zeros overwrite resize growMemory requiredPages normalized within merge insert add around remove flatRuns additions addOne remain plan put refill tabulate addNumberIf span grownNumbers imageByte imagePage pushRun raw overByte budgetBytes raised touch blank copy stretch patch finish grow growTo chop tail truncated wholePage overWrite written fresh lookUp sized passing marked tryTouch tryPatch tryFinish tryGrow tryGrowTo tryTail tryChop tryTruncate tryWrite frameCount entryCount wiped cached shortBuffers view overlayOf putBack stored smallCodec smallSum smallDecode smallRuns smallLoad smallFresh importing stale refreshing marks afterCommit short storePlan noOverlay imageBytes unchanged plannedRuns commitOver store outside open′ copied spoil newRun pagesWith endsWithin grownDirty draftWrite draftTruncate ground fileGround fileOf laid leaves lentWith right begin0 idlerCalls idler
+unfolding count zeros overwrite resize growMemory requiredPages normalized within merge insert add around remove flatRuns additions addOne remain plan put refill tabulate addNumberIf span grownNumbers imageByte imagePage pushRun raw overByte budgetBytes raised touch blank copy stretch patch finish grow growTo chop tail truncated wholePage overWrite written fresh lookUp sized passing marked tryTouch tryPatch tryFinish tryGrow tryGrowTo tryTail tryChop tryTruncate tryWrite frameCount entryCount wiped cached shortBuffers view overlayOf putBack stored smallCodec smallSum smallDecode smallRuns smallLoad smallFresh importing stale refreshing marks afterCommit short storePlan noOverlay imageBytes unchanged plannedRuns commitOver store outside openImage closing open′ copied spoil newRun pagesWith endsWithin grownDirty draftWrite draftTruncate ground fileGround fileOf laid leaves lentWith right begin0 idlerCalls idler
 idler-shows h = h (lends-self _ _) tt .2 (lends-self _ _) tt .2 (lends-self _ _) tt .2 (lends-self _ _) tt .0 .shown
 
 pub idler-fails : Small idler → ⊥
@@ -227,7 +227,7 @@ unfoldable firstPageCalls : List Call
 firstPageCalls = begin0 ∷ write 1 (9 ∷ 9 ∷ []) ∷ read 0 (zeros 4) ∷ []
 
 firstPage-shows : Promised firstPage 4 firstPageCalls → _≡_ {A = List ℕ} (5 ∷ 9 ∷ 7 ∷ 8 ∷ []) (5 ∷ 9 ∷ 9 ∷ 8 ∷ [])
-unfolding count zeros overwrite resize growMemory requiredPages normalized within merge insert add around remove flatRuns additions addOne remain plan put refill tabulate addNumberIf span grownNumbers imageByte imagePage pushRun raw overByte budgetBytes raised touch blank copy stretch patch finish grow growTo chop tail truncated wholePage overWrite written fresh lookUp sized passing marked tryTouch tryPatch tryFinish tryGrow tryGrowTo tryTail tryChop tryTruncate tryWrite frameCount entryCount wiped cached shortBuffers view overlayOf putBack stored smallCodec smallSum smallDecode smallRuns smallLoad smallFresh importing stale refreshing marks afterCommit short storePlan noOverlay imageBytes unchanged plannedRuns commitOver store outside open′ copied spoil newRun pagesWith endsWithin grownDirty draftWrite draftTruncate ground fileGround fileOf laid leaves lentWith right begin0 firstPageCalls firstPage
+unfolding count zeros overwrite resize growMemory requiredPages normalized within merge insert add around remove flatRuns additions addOne remain plan put refill tabulate addNumberIf span grownNumbers imageByte imagePage pushRun raw overByte budgetBytes raised touch blank copy stretch patch finish grow growTo chop tail truncated wholePage overWrite written fresh lookUp sized passing marked tryTouch tryPatch tryFinish tryGrow tryGrowTo tryTail tryChop tryTruncate tryWrite frameCount entryCount wiped cached shortBuffers view overlayOf putBack stored smallCodec smallSum smallDecode smallRuns smallLoad smallFresh importing stale refreshing marks afterCommit short storePlan noOverlay imageBytes unchanged plannedRuns commitOver store outside openImage closing open′ copied spoil newRun pagesWith endsWithin grownDirty draftWrite draftTruncate ground fileGround fileOf laid leaves lentWith right begin0 firstPageCalls firstPage
 firstPage-shows h = h (lends-self _ _) tt .2 (lends-self _ _) tt .2 (lends-self _ _) tt .0 .shown
 
 pub firstPage-fails : Small firstPage → ⊥
@@ -251,7 +251,7 @@ unfoldable blindCalls : List Call
 blindCalls = read 0 (zeros 3) ∷ []
 
 blind-shows : Promised blind 4 blindCalls → _≡_ {A = List ℕ} (0 ∷ 0 ∷ 0 ∷ []) (5 ∷ 6 ∷ 7 ∷ [])
-unfolding count zeros overwrite resize growMemory requiredPages normalized within merge insert add around remove flatRuns additions addOne remain plan put refill tabulate addNumberIf span grownNumbers imageByte imagePage pushRun raw overByte budgetBytes raised touch blank copy stretch patch finish grow growTo chop tail truncated wholePage overWrite written fresh lookUp sized passing marked tryTouch tryPatch tryFinish tryGrow tryGrowTo tryTail tryChop tryTruncate tryWrite frameCount entryCount wiped cached shortBuffers view overlayOf putBack stored smallCodec smallSum smallDecode smallRuns smallLoad smallFresh importing stale refreshing marks afterCommit short storePlan noOverlay imageBytes unchanged plannedRuns commitOver store outside open′ copied spoil newRun pagesWith endsWithin grownDirty draftWrite draftTruncate ground fileGround fileOf laid leaves lentWith right begin0 blindCalls blind
+unfolding count zeros overwrite resize growMemory requiredPages normalized within merge insert add around remove flatRuns additions addOne remain plan put refill tabulate addNumberIf span grownNumbers imageByte imagePage pushRun raw overByte budgetBytes raised touch blank copy stretch patch finish grow growTo chop tail truncated wholePage overWrite written fresh lookUp sized passing marked tryTouch tryPatch tryFinish tryGrow tryGrowTo tryTail tryChop tryTruncate tryWrite frameCount entryCount wiped cached shortBuffers view overlayOf putBack stored smallCodec smallSum smallDecode smallRuns smallLoad smallFresh importing stale refreshing marks afterCommit short storePlan noOverlay imageBytes unchanged plannedRuns commitOver store outside openImage closing open′ copied spoil newRun pagesWith endsWithin grownDirty draftWrite draftTruncate ground fileGround fileOf laid leaves lentWith right begin0 blindCalls blind
 blind-shows h = h (lends-self _ _) tt .0 .shown
 
 pub blind-fails : Small blind → ⊥
@@ -275,7 +275,7 @@ unfoldable neverCalls : List Call
 neverCalls = begin0 ∷ write 0 (9 ∷ []) ∷ commit ∷ []
 
 never-shows : Promised never 4 neverCalls → _≡_ {A = ℕ} (31) (0)
-unfolding count zeros overwrite resize growMemory requiredPages normalized within merge insert add around remove flatRuns additions addOne remain plan put refill tabulate addNumberIf span grownNumbers imageByte imagePage pushRun raw overByte budgetBytes raised touch blank copy stretch patch finish grow growTo chop tail truncated wholePage overWrite written fresh lookUp sized passing marked tryTouch tryPatch tryFinish tryGrow tryGrowTo tryTail tryChop tryTruncate tryWrite frameCount entryCount wiped cached shortBuffers view overlayOf putBack stored smallCodec smallSum smallDecode smallRuns smallLoad smallFresh importing stale refreshing marks afterCommit short storePlan noOverlay imageBytes unchanged plannedRuns commitOver store outside open′ copied spoil newRun pagesWith endsWithin grownDirty draftWrite draftTruncate ground fileGround fileOf laid leaves lentWith right begin0 neverCalls never
+unfolding count zeros overwrite resize growMemory requiredPages normalized within merge insert add around remove flatRuns additions addOne remain plan put refill tabulate addNumberIf span grownNumbers imageByte imagePage pushRun raw overByte budgetBytes raised touch blank copy stretch patch finish grow growTo chop tail truncated wholePage overWrite written fresh lookUp sized passing marked tryTouch tryPatch tryFinish tryGrow tryGrowTo tryTail tryChop tryTruncate tryWrite frameCount entryCount wiped cached shortBuffers view overlayOf putBack stored smallCodec smallSum smallDecode smallRuns smallLoad smallFresh importing stale refreshing marks afterCommit short storePlan noOverlay imageBytes unchanged plannedRuns commitOver store outside openImage closing open′ copied spoil newRun pagesWith endsWithin grownDirty draftWrite draftTruncate ground fileGround fileOf laid leaves lentWith right begin0 neverCalls never
 never-shows h = h (lends-self _ _) tt .2 (lends-self _ _) tt .2 (lends-self _ _) tt .0 .0
 
 pub never-fails : Small never → ⊥
@@ -305,7 +305,7 @@ unfoldable endOnlyCalls : List Call
 endOnlyCalls = begin0 ∷ write 2 (9 ∷ []) ∷ truncate 2 ∷ truncate 4 ∷ read 2 (zeros 1) ∷ []
 
 endOnly-shows : Promised endOnly 4 endOnlyCalls → _≡_ {A = List ℕ} (9 ∷ []) (0 ∷ [])
-unfolding count zeros overwrite resize growMemory requiredPages normalized within merge insert add around remove flatRuns additions addOne remain plan put refill tabulate addNumberIf span grownNumbers imageByte imagePage pushRun raw overByte budgetBytes raised touch blank copy stretch patch finish grow growTo chop tail truncated wholePage overWrite written fresh lookUp sized passing marked tryTouch tryPatch tryFinish tryGrow tryGrowTo tryTail tryChop tryTruncate tryWrite frameCount entryCount wiped cached shortBuffers view overlayOf putBack stored smallCodec smallSum smallDecode smallRuns smallLoad smallFresh importing stale refreshing marks afterCommit short storePlan noOverlay imageBytes unchanged plannedRuns commitOver store outside open′ copied spoil newRun pagesWith endsWithin grownDirty draftWrite draftTruncate ground fileGround fileOf laid leaves lentWith right begin0 endOnlyCalls endOnly
+unfolding count zeros overwrite resize growMemory requiredPages normalized within merge insert add around remove flatRuns additions addOne remain plan put refill tabulate addNumberIf span grownNumbers imageByte imagePage pushRun raw overByte budgetBytes raised touch blank copy stretch patch finish grow growTo chop tail truncated wholePage overWrite written fresh lookUp sized passing marked tryTouch tryPatch tryFinish tryGrow tryGrowTo tryTail tryChop tryTruncate tryWrite frameCount entryCount wiped cached shortBuffers view overlayOf putBack stored smallCodec smallSum smallDecode smallRuns smallLoad smallFresh importing stale refreshing marks afterCommit short storePlan noOverlay imageBytes unchanged plannedRuns commitOver store outside openImage closing open′ copied spoil newRun pagesWith endsWithin grownDirty draftWrite draftTruncate ground fileGround fileOf laid leaves lentWith right begin0 endOnlyCalls endOnly
 endOnly-shows h = h (lends-self _ _) tt .2 (lends-self _ _) tt .2 (lends-self _ _) (omega arith) .2 (lends-self _ _) (omega arith) .2 (lends-self _ _) tt .0 .shown
 
 pub endOnly-fails : Small endOnly → ⊥
@@ -336,7 +336,7 @@ unfoldable recordFirstCalls : List Call
 recordFirstCalls = begin0 ∷ write 4 (9 ∷ []) ∷ read 4 (zeros 1) ∷ []
 
 recordFirst-shows : Promised recordFirst 4 recordFirstCalls → _≡_ {A = List ℕ} (0 ∷ []) (9 ∷ [])
-unfolding count zeros overwrite resize growMemory requiredPages normalized within merge insert add around remove flatRuns additions addOne remain plan put refill tabulate addNumberIf span grownNumbers imageByte imagePage pushRun raw overByte budgetBytes raised touch blank copy stretch patch finish grow growTo chop tail truncated wholePage overWrite written fresh lookUp sized passing marked tryTouch tryPatch tryFinish tryGrow tryGrowTo tryTail tryChop tryTruncate tryWrite frameCount entryCount wiped cached shortBuffers view overlayOf putBack stored smallCodec smallSum smallDecode smallRuns smallLoad smallFresh importing stale refreshing marks afterCommit short storePlan noOverlay imageBytes unchanged plannedRuns commitOver store outside open′ copied spoil newRun pagesWith endsWithin grownDirty draftWrite draftTruncate ground fileGround fileOf laid leaves lentWith right begin0 recordFirstCalls recordFirst
+unfolding count zeros overwrite resize growMemory requiredPages normalized within merge insert add around remove flatRuns additions addOne remain plan put refill tabulate addNumberIf span grownNumbers imageByte imagePage pushRun raw overByte budgetBytes raised touch blank copy stretch patch finish grow growTo chop tail truncated wholePage overWrite written fresh lookUp sized passing marked tryTouch tryPatch tryFinish tryGrow tryGrowTo tryTail tryChop tryTruncate tryWrite frameCount entryCount wiped cached shortBuffers view overlayOf putBack stored smallCodec smallSum smallDecode smallRuns smallLoad smallFresh importing stale refreshing marks afterCommit short storePlan noOverlay imageBytes unchanged plannedRuns commitOver store outside openImage closing open′ copied spoil newRun pagesWith endsWithin grownDirty draftWrite draftTruncate ground fileGround fileOf laid leaves lentWith right begin0 recordFirstCalls recordFirst
 recordFirst-shows h = h (lends-self _ _) tt .2 (lends-self _ _) tt .2 (lends-self _ _) tt .0 .shown
 
 pub recordFirst-fails : Small recordFirst → ⊥
@@ -370,7 +370,7 @@ unfoldable trustingCalls : List Call
 trustingCalls = begin0 ∷ truncate 4 ∷ commit ∷ read 3 (zeros 1) ∷ []
 
 trusting-shows : Promised trusting 3 trustingCalls → _≡_ {A = List ℕ} (8 ∷ []) (0 ∷ [])
-unfolding count zeros overwrite resize growMemory requiredPages normalized within merge insert add around remove flatRuns additions addOne remain plan put refill tabulate addNumberIf span grownNumbers imageByte imagePage pushRun raw overByte budgetBytes raised touch blank copy stretch patch finish grow growTo chop tail truncated wholePage overWrite written fresh lookUp sized passing marked tryTouch tryPatch tryFinish tryGrow tryGrowTo tryTail tryChop tryTruncate tryWrite frameCount entryCount wiped cached shortBuffers view overlayOf putBack stored smallCodec smallSum smallDecode smallRuns smallLoad smallFresh importing stale refreshing marks afterCommit short storePlan noOverlay imageBytes unchanged plannedRuns commitOver store outside open′ copied spoil newRun pagesWith endsWithin grownDirty draftWrite draftTruncate ground fileGround fileOf laid leaves lentWith right begin0 trustingCalls trusting
+unfolding count zeros overwrite resize growMemory requiredPages normalized within merge insert add around remove flatRuns additions addOne remain plan put refill tabulate addNumberIf span grownNumbers imageByte imagePage pushRun raw overByte budgetBytes raised touch blank copy stretch patch finish grow growTo chop tail truncated wholePage overWrite written fresh lookUp sized passing marked tryTouch tryPatch tryFinish tryGrow tryGrowTo tryTail tryChop tryTruncate tryWrite frameCount entryCount wiped cached shortBuffers view overlayOf putBack stored smallCodec smallSum smallDecode smallRuns smallLoad smallFresh importing stale refreshing marks afterCommit short storePlan noOverlay imageBytes unchanged plannedRuns commitOver store outside openImage closing open′ copied spoil newRun pagesWith endsWithin grownDirty draftWrite draftTruncate ground fileGround fileOf laid leaves lentWith right begin0 trustingCalls trusting
 trusting-shows h = h (lends-self _ _) tt .2 (lends-self _ _) (omega arith) .2 (lends-self _ _) tt .2 (lends-self _ _) tt .0 .shown
 
 pub trusting-fails : Small trusting → ⊥
@@ -390,7 +390,7 @@ unfoldable hoardCalls : List Call
 hoardCalls = read 0 (zeros 3) ∷ []
 
 hoard-shows : Promised hoard 4 hoardCalls → 24048 ≤ 48
-unfolding count zeros overwrite resize growMemory requiredPages normalized within merge insert add around remove flatRuns additions addOne remain plan put refill tabulate addNumberIf span grownNumbers imageByte imagePage pushRun raw overByte budgetBytes raised touch blank copy stretch patch finish grow growTo chop tail truncated wholePage overWrite written fresh lookUp sized passing marked tryTouch tryPatch tryFinish tryGrow tryGrowTo tryTail tryChop tryTruncate tryWrite frameCount entryCount wiped cached shortBuffers view overlayOf putBack stored smallCodec smallSum smallDecode smallRuns smallLoad smallFresh importing stale refreshing marks afterCommit short storePlan noOverlay imageBytes unchanged plannedRuns commitOver store outside open′ copied spoil newRun pagesWith endsWithin grownDirty draftWrite draftTruncate ground fileGround fileOf laid leaves lentWith right hoardCalls hoard
+unfolding count zeros overwrite resize growMemory requiredPages normalized within merge insert add around remove flatRuns additions addOne remain plan put refill tabulate addNumberIf span grownNumbers imageByte imagePage pushRun raw overByte budgetBytes raised touch blank copy stretch patch finish grow growTo chop tail truncated wholePage overWrite written fresh lookUp sized passing marked tryTouch tryPatch tryFinish tryGrow tryGrowTo tryTail tryChop tryTruncate tryWrite frameCount entryCount wiped cached shortBuffers view overlayOf putBack stored smallCodec smallSum smallDecode smallRuns smallLoad smallFresh importing stale refreshing marks afterCommit short storePlan noOverlay imageBytes unchanged plannedRuns commitOver store outside openImage closing open′ copied spoil newRun pagesWith endsWithin grownDirty draftWrite draftTruncate ground fileGround fileOf laid leaves lentWith right hoardCalls hoard
 hoard-shows h = h (lends-self _ _) tt .1 .memory (omega arith)
 
 pub hoard-fails : Small hoard → ⊥
@@ -411,7 +411,7 @@ unfoldable greedyCalls : List Call
 greedyCalls = begin0 ∷ []
 
 greedy-shows : Promised greedy 4 greedyCalls → _≡_ {A = Bool} true false
-unfolding count zeros overwrite resize growMemory requiredPages normalized within merge insert add around remove flatRuns additions addOne remain plan put refill tabulate addNumberIf span grownNumbers imageByte imagePage pushRun raw overByte budgetBytes raised touch blank copy stretch patch finish grow growTo chop tail truncated wholePage overWrite written fresh lookUp sized passing marked tryTouch tryPatch tryFinish tryGrow tryGrowTo tryTail tryChop tryTruncate tryWrite frameCount entryCount wiped cached shortBuffers view overlayOf putBack stored smallCodec smallSum smallDecode smallRuns smallLoad smallFresh importing stale refreshing marks afterCommit short storePlan noOverlay imageBytes unchanged plannedRuns commitOver store outside open′ copied spoil newRun pagesWith endsWithin grownDirty draftWrite draftTruncate ground fileGround fileOf laid leaves lentWith right begin0 greedyCalls greedy
+unfolding count zeros overwrite resize growMemory requiredPages normalized within merge insert add around remove flatRuns additions addOne remain plan put refill tabulate addNumberIf span grownNumbers imageByte imagePage pushRun raw overByte budgetBytes raised touch blank copy stretch patch finish grow growTo chop tail truncated wholePage overWrite written fresh lookUp sized passing marked tryTouch tryPatch tryFinish tryGrow tryGrowTo tryTail tryChop tryTruncate tryWrite frameCount entryCount wiped cached shortBuffers view overlayOf putBack stored smallCodec smallSum smallDecode smallRuns smallLoad smallFresh importing stale refreshing marks afterCommit short storePlan noOverlay imageBytes unchanged plannedRuns commitOver store outside openImage closing open′ copied spoil newRun pagesWith endsWithin grownDirty draftWrite draftTruncate ground fileGround fileOf laid leaves lentWith right begin0 greedyCalls greedy
 greedy-shows h = h (lends-self _ _) tt .1 .buffers refl
 
 pub greedy-fails : Small greedy → ⊥
@@ -437,7 +437,7 @@ unfoldable narrowCalls : List Call
 narrowCalls = write 0 (9 ∷ []) ∷ []
 
 narrow-shows : Promised narrow 4 narrowCalls → _≡_ {A = ℕ} 0 20
-unfolding count zeros overwrite resize growMemory requiredPages normalized within merge insert add around remove flatRuns additions addOne remain plan put refill tabulate addNumberIf span grownNumbers imageByte imagePage pushRun raw overByte budgetBytes raised touch blank copy stretch patch finish grow growTo chop tail truncated wholePage overWrite written fresh lookUp sized passing marked tryTouch tryPatch tryFinish tryGrow tryGrowTo tryTail tryChop tryTruncate tryWrite frameCount entryCount wiped cached shortBuffers view overlayOf putBack stored smallCodec smallSum smallDecode smallRuns smallLoad smallFresh importing stale refreshing marks afterCommit short storePlan noOverlay imageBytes unchanged plannedRuns commitOver store outside open′ copied spoil newRun pagesWith endsWithin grownDirty draftWrite draftTruncate ground fileGround fileOf laid leaves lentWith right narrowCalls narrow
+unfolding count zeros overwrite resize growMemory requiredPages normalized within merge insert add around remove flatRuns additions addOne remain plan put refill tabulate addNumberIf span grownNumbers imageByte imagePage pushRun raw overByte budgetBytes raised touch blank copy stretch patch finish grow growTo chop tail truncated wholePage overWrite written fresh lookUp sized passing marked tryTouch tryPatch tryFinish tryGrow tryGrowTo tryTail tryChop tryTruncate tryWrite frameCount entryCount wiped cached shortBuffers view overlayOf putBack stored smallCodec smallSum smallDecode smallRuns smallLoad smallFresh importing stale refreshing marks afterCommit short storePlan noOverlay imageBytes unchanged plannedRuns commitOver store outside openImage closing open′ copied spoil newRun pagesWith endsWithin grownDirty draftWrite draftTruncate ground fileGround fileOf laid leaves lentWith right narrowCalls narrow
 narrow-shows h = h (lends-self _ _) tt .0 .range refl (omega arith)
 
 pub narrow-fails : Small narrow → ⊥
