@@ -110,7 +110,11 @@ uint64_t yuharopu_plan(uint64_t *work, size_t work_len, const uint64_t *extents,
 
 /* Opens the image in `mem`, of which `count` stable pages are in use. At count 0 it makes a fresh one: the first stable
  * page becomes zeros and its superblock is stored; 32 where `mem` has no stable page.
- * 1, 2, 3, 4: memory stays. After a refusal but 35 the state is one without image, whose superblock is zeros. */
+ * 1, 2, 3, 4: memory stays. After a refusal but 35 the state is one without image, whose superblock is zeros.
+ * An import does not outlive the opening: where the accepted image has the importing mark, it is closed as
+ * yuharopu_cancel_import would close it, and the superblock is stored. The mark and the four import fields become 0; the
+ * file, every other field and the count stay, and so do the bytes that were imported, behind the file. A complete import
+ * is closed too. An image without the mark is not changed. */
 uint64_t yuharopu_open(uint8_t *state, size_t state_len, uint8_t *mem, size_t mem_len, uint64_t count, uint64_t *answer,
                        size_t answer_len);
 
@@ -158,8 +162,8 @@ uint64_t yuharopu_rollback_update(uint8_t *state, size_t state_len, uint8_t *fra
                                   uint64_t *numbers, size_t numbers_len, uint8_t *clean, size_t clean_len,
                                   uint64_t *record, size_t record_len, uint64_t *answer, size_t answer_len);
 
-/* Begins an import of `total` bytes whose FNV-1a hash is to be `expected`; they go behind the stable pages in use.
- * 12, 10, 20: nothing changes. */
+/* Begins an import of `total` bytes whose FNV-1a hash is to be `expected`; they go behind the stable pages in use. It is
+ * open until it is finished or cancelled, or the image is opened again. 12, 10, 20: nothing changes. */
 uint64_t yuharopu_begin_import(uint8_t *state, size_t state_len, uint8_t *mem, size_t mem_len, uint64_t total,
                                uint64_t expected, uint64_t *answer, size_t answer_len);
 

@@ -146,6 +146,19 @@ pub fn seal(bytes: &mut [u8]) {
     put(bytes, CHECKSUM, checksum);
 }
 
+/// The importing mark of the block in front of memory.
+pub fn is_importing(memory: &[u8]) -> bool {
+    get(memory, FLAGS) & IMPORTING != 0
+}
+
+/// Mark and import fields are cleared, the checksum is made anew; nothing else changes.
+pub fn close_import(memory: &mut [u8]) {
+    let flags = get(memory, FLAGS);
+    put(memory, FLAGS, flags & !IMPORTING);
+    IMPORT.for_each(|field| put(memory, field, 0));
+    seal(&mut memory[..BYTES]);
+}
+
 /// A normalized list of this many runs, close together or far apart.
 pub fn normalized_runs(prng: &mut Prng, count: u64) -> Vec<u64> {
     let widest = u64::MAX / (2 * count + 2);

@@ -108,6 +108,19 @@ fn an_import_is_exported_and_checked() {
     assert_eq!((step.complete, step.checksum), (true, hash));
 }
 
+/// The original's import outlives an opening; `cancel_import` then closes it, and that is what the library's opening does.
+#[test]
+fn an_import_outlives_the_opening_here() {
+    let Some(mut store) = fresh() else { return };
+    assert_eq!(store.begin_import(3, 5), Ok(()));
+    assert_eq!(store.import_chunk(0, b"ab"), Ok(()));
+    let mut again = Store::open(&store.snapshot(), store.count(), 64).expect("an image");
+    assert_eq!(again.snapshot(), store.snapshot());
+    assert_eq!(again.begin_update(), Err(refusal(10, [0; 2])));
+    assert_eq!(again.cancel_import(), Ok(()));
+    assert_eq!(again.begin_update(), Ok(0));
+}
+
 #[test]
 fn stores_do_not_meet() {
     let (Some(mut one), Some(mut other)) = (fresh(), fresh()) else {

@@ -62,10 +62,11 @@ fn any_list_of_calls() {
         counts
     });
     say(&format!(
-        "YUHAROPU_SEED={seed:#x}: {} calls in {} lists, {} answered by the original too, {} s\n{}",
+        "YUHAROPU_SEED={seed:#x}: {} calls in {} lists, {} answered by the original too, {} imports closed by an opening, {} s\n{}",
         counts.calls,
         next.load(Ordering::Relaxed),
         counts.compared,
+        counts.closed,
         start.elapsed().as_secs(),
         counts.table()
     ));
@@ -78,5 +79,6 @@ fn any_list_of_calls() {
         assert!(counts.steps_left > 1_000, "{counts:?}");
         assert!(counts.full_caches > 100, "{counts:?}");
         assert!(counts.freed > 1_000, "{counts:?}");
+        assert!(counts.closed > 1_000, "{counts:?}");
     }
 }

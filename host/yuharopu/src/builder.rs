@@ -46,7 +46,7 @@ impl Builder {
     }
 
     /// The image in these bytes, of which a last stable page that is not whole is filled up with zeros. The ceiling is at
-    /// least what they take.
+    /// least what they take. An import that is open in them is cancelled: none is open in the store.
     pub fn open(self, image: &[u8]) -> Result<Store, Error> {
         let count = image.len().div_ceil(STABLE_PAGE_BYTES);
         let mut mem = Aligned::zeros(count.max(self.ceiling) * STABLE_PAGE_BYTES);

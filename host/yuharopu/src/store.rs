@@ -160,7 +160,8 @@ impl Store {
         Ok(())
     }
 
-    /// Begins an import of `total` bytes whose FNV-1a hash is to be `expected`.
+    /// Begins an import of `total` bytes whose FNV-1a hash is to be `expected`. It does not outlive the store: opening
+    /// [`Store::memory`] again cancels it.
     pub fn begin_import(&mut self, total: u64, expected: u64) -> Result<(), Error> {
         self.on_memory(|state, mem, answer| {
             calls::begin_import(state, mem, total, expected, answer)

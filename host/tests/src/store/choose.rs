@@ -91,7 +91,8 @@ impl Chooser {
             let room = self.room();
             return Act::Lend { seed, room };
         }
-        if !seen.updating && self.prng.below(60) == 0 {
+        let seldom = if seen.importing { 20 } else { 60 };
+        if !seen.updating && self.prng.below(seldom) == 0 {
             return Act::Reopen;
         }
         let call = self.call(seen);

@@ -12,6 +12,8 @@ pub struct Counts {
     pub steps_left: u64,
     pub full_caches: u64,
     pub freed: u64,
+    /// Imports that an opening has closed.
+    pub closed: u64,
 }
 
 /// Each call with the refusals that can arise in it, but for 35.
@@ -55,6 +57,7 @@ impl Counts {
         self.steps_left += other.steps_left;
         self.full_caches += other.full_caches;
         self.freed += other.freed;
+        self.closed += other.closed;
     }
 
     /// A line a call: each number with how often it was the answer.

@@ -1,7 +1,7 @@
 //! Memories to open: fresh ones, images with odd fields, full of runs or in an import, and ones that cannot be opened.
 
 use super::place::near;
-use crate::block::{self, Block, BASE, FLAGS, IMPORT, REFRESH, SIZE, TX};
+use crate::block::{self, Block, BASE, FLAGS, IMPORT, IMPORTING, REFRESH, SIZE, TX};
 use crate::plan::{numbers, Run, MAX_RUNS, PAGE};
 use crate::plan_case::far_runs;
 use crate::prng::Prng;
@@ -59,7 +59,7 @@ impl Made {
         block.fields[TX] = prng.pick(&[0, 5, u64::MAX, u64::MAX - 1]);
         // now and then with bits that no call sets
         let unknown = prng.pick(&[0, 0, 8, u64::MAX / 8 * 8]);
-        block.fields[FLAGS] = unknown + prng.pick(&[0, 0, 0, 2, 4, 6, 1, 3, 5]);
+        block.fields[FLAGS] = unknown + prng.pick(&[0, 0, 0, 2, 4, 6, 1, 1, 3, 5, 7]);
         let tx = block.fields[TX];
         let reached = near(prng, size);
         block.fields[REFRESH.start] = prng.pick(&[0, size / 2, size, reached]);
@@ -68,7 +68,7 @@ impl Made {
         block
     }
 
-    /// An import that can go on, whether one is open or not.
+    /// An import that could go on or be finished, whether one is open or not.
     fn import(&self, prng: &mut Prng, block: &mut Block, end: u64) {
         let base = prng.pick(&[STABLE_PAGE, STABLE_PAGE + 77, end]).min(end);
         let reached = prng.below(end - base + 1);
@@ -84,14 +84,15 @@ impl Made {
     /// So that it is refused by 1 to 4, mostly.
     fn spoil(&mut self, prng: &mut Prng) {
         let end = self.count * STABLE_PAGE;
-        let fields: [(usize, &[u64]); 8] = [
+        let fields: [(usize, &[u64]); 9] = [
             (block::MAGIC, &[0, u64::MAX]),
             (block::VERSION, &[0, 7, 9]),
             (block::LAYOUT, &[0, 7, 9, u64::MAX]),
             (block::COUNT, &[1_025, u64::MAX]),
             (SIZE, &[end, u64::MAX, end + 1, end - STABLE_PAGE + 1]),
             (BASE, &[0, STABLE_PAGE - 1, end, end + 1, u64::MAX]),
-            (IMPORT.start + 1, &[end, u64::MAX, 0]),
+            (IMPORT.start + 1, &[end, end + 1, u64::MAX, 0]),
+            (IMPORT.start + 2, &[0, end, u64::MAX]),
             (IMPORT.start + 3, &[0, STABLE_PAGE - 1, end + 1, u64::MAX]),
         ];
         match prng.below(10) {
@@ -106,6 +107,10 @@ impl Made {
                 let (field, values) = prng.pick(&fields);
                 let bytes = &mut self.memory[..block::BYTES];
                 block::put(bytes, field, prng.pick(values));
+                if IMPORT.contains(&field) {
+                    let flags = block::get(bytes, FLAGS);
+                    block::put(bytes, FLAGS, flags | prng.pick(&[0, IMPORTING, IMPORTING]));
+                }
                 block::seal(bytes);
             }
         }

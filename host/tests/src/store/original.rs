@@ -1,6 +1,7 @@
 //! The original, asked as the library is.
 
 use super::{Call, Outcome};
+use crate::block;
 use oracle::{Draft, Limit, Refusal, Store};
 
 pub struct Original {
@@ -17,10 +18,14 @@ fn of<T>(answer: Result<T, Refusal>, show: impl FnOnce(T) -> Outcome) -> Outcome
 }
 
 impl Original {
-    /// These bytes are the stable pages in use.
+    /// These bytes are the stable pages in use. An import that is open in them is cancelled once they are accepted, as 02,
+    /// W-202, says of this side.
     pub fn open(bytes: &[u8], ceiling: u64) -> Result<Self, Outcome> {
         let count = bytes.len() as u64 / 65_536;
-        let store = Store::open(bytes, count, ceiling).map_err(refused)?;
+        let mut store = Store::open(bytes, count, ceiling).map_err(refused)?;
+        if count > 0 && block::is_importing(bytes) {
+            store.cancel_import().map_err(refused)?;
+        }
         Ok(Self {
             store,
             updating: false,

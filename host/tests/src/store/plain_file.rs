@@ -11,6 +11,7 @@ use crate::plan::{Run, PAGE};
 use draft::Draft;
 use pages::Pages;
 
+#[derive(PartialEq)]
 pub struct PlainFile {
     size: u64,
     pages: Pages,

@@ -4,7 +4,7 @@ use super::act::{Act, Needs};
 use super::choose::Seen;
 use super::update::{Page, Update};
 use super::{Buffers, Call, Library, Made, Model, Original, Outcome, PlainFile, PAGE_LEN};
-use crate::block::{BASE, IMPORT};
+use crate::block::{self, BASE, IMPORT};
 
 const STABLE_PAGE: usize = 65_536;
 const ADDED: [u64; 2] = [33, 34];
@@ -22,6 +22,8 @@ pub struct Run {
     /// How many whole caches and freed frames there were.
     pub full_caches: u64,
     pub freed: u64,
+    /// How many imports an opening has closed.
+    pub closed: u64,
 }
 
 type Held<T> = Result<T, String>;
@@ -68,7 +70,7 @@ impl Run {
         };
         same("open", &answer, &Outcome::done())?;
         let file = PlainFile::in_memory(&library.memory);
-        let run = Self {
+        let mut run = Self {
             library,
             model,
             file,
@@ -76,10 +78,30 @@ impl Run {
             compared: 0,
             full_caches: 0,
             freed: 0,
+            closed: 0,
         };
-        run.check()?;
-        run.check_original()?;
+        run.check_opened(in_use)?;
         Ok((answer, Some(run)))
+    }
+
+    /// After an opening of memory that had these stable pages in use, none for a fresh image. "An import no longer outlives the
+    /// opening of the image": the file is the one that was there, and nothing else of memory changed than closes an import.
+    fn check_opened(&mut self, before: &[u8]) -> Held<()> {
+        self.check()?;
+        self.check_original()?;
+        let after = &self.library.memory[..];
+        hold(!block::is_importing(after), "an import is open")?;
+        if before.is_empty() {
+            return Ok(());
+        }
+        let there = PlainFile::in_memory(before);
+        hold(there == PlainFile::in_memory(after), "the file at opening")?;
+        let mut expected = before.to_vec();
+        if block::is_importing(before) {
+            self.closed += 1;
+            block::close_import(&mut expected);
+        }
+        hold(after[..before.len()] == expected, "memory at opening")
     }
 
     pub fn act(&mut self, act: &Act) -> Held<Option<Outcome>> {
@@ -110,17 +132,21 @@ impl Run {
         }
     }
 
-    /// What a list leaves in memory can be opened, and gives the state that there was.
+    /// What a list leaves in memory can be opened, and gives the state that there was; but for an import, which is closed.
     fn reopen(&mut self) -> Held<Outcome> {
         self.check()?;
-        let (memory, buffers) = (self.library.memory.clone(), self.library.buffers.clone());
-        let (library, outcome) = Library::open(memory, self.model.count, buffers);
+        let (memory, count) = (self.library.memory.clone(), self.model.count);
+        let (library, outcome) = Library::open(memory.clone(), count, self.library.buffers.clone());
         same("opened again", &outcome, &Outcome::done())?;
-        self.library = library;
-        self.check()?;
-        if self.original.take().is_some() {
+        if self.original.is_some() {
             self.open_original()?;
         }
+        if self.model.is_importing() {
+            let model = Model::open(memory.clone(), count, self.model.buffers.clone());
+            self.model = model.map_err(|_| "no image")?;
+        }
+        self.library = library;
+        self.check_opened(&memory[..count as usize * STABLE_PAGE])?;
         Ok(outcome)
     }
 

@@ -126,6 +126,7 @@ pub fn random(seed: u64, shape: Shape, counts: &mut Counts) -> Result<(), String
     counts.compared += run.compared;
     counts.full_caches += run.full_caches;
     counts.freed += run.freed;
+    counts.closed += run.closed;
     Ok(())
 }
 

@@ -14,7 +14,8 @@ pub struct Lent<'a> {
     pub work: &'a mut [u64],
 }
 
-/// Opens the image in `mem`, of which `count` stable pages are in use; at 0 a fresh one.
+/// Opens the image in `mem`, of which `count` stable pages are in use; at 0 a fresh one. An import that is open in it is
+/// cancelled.
 pub fn open(state: &mut [u8], mem: &mut [u8], count: u64, answer: &mut [u64]) -> u64 {
     // SAFETY: each pointer and the length after it are one slice's.
     unsafe {

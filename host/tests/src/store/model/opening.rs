@@ -1,4 +1,4 @@
-//! Opening: 35, 32, then 1 to 4.
+//! Opening: 35, 32, then 1 to 4; then an import that is open is closed (02, W-202).
 
 use super::{Model, Tried, STABLE_PAGE};
 use crate::block::{self, Block, BASE, COUNT, FIELDS, FLAGS, IMPORT, IMPORTING, LAYOUT, SIZE};
@@ -41,6 +41,9 @@ impl Model {
         }
         model.fields = fields;
         model.runs = runs;
+        if model.is_importing() {
+            model.close_import();
+        }
         Ok(model)
     }
 }

@@ -94,7 +94,7 @@ impl Model {
         Ok(Outcome::done())
     }
 
-    fn close_import(&mut self) {
+    pub(super) fn close_import(&mut self) {
         self.fields[IMPORT].fill(0);
         self.fields[FLAGS] &= !IMPORTING;
         self.store();

@@ -3,6 +3,7 @@
 use super::Pages;
 use crate::plan::{Input, Run, PAGE};
 
+#[derive(PartialEq)]
 pub struct Draft {
     pub size: u64,
     pub pages: Pages,

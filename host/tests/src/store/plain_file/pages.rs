@@ -5,7 +5,7 @@ use crate::store::update::parts;
 use std::collections::BTreeMap;
 use std::rc::Rc;
 
-#[derive(Clone, Default)]
+#[derive(Clone, Default, PartialEq)]
 pub struct Pages(BTreeMap<u64, Rc<Vec<u8>>>);
 
 impl Pages {
