@@ -14,6 +14,7 @@ sys.dont_write_bytecode = True
 
 import theorems
 from lists import SETS, Lists
+from model import IMPORTING
 
 ROOT = pathlib.Path(__file__).resolve().parents[2]
 DEPS = "config memory words fnv meta meta_load runs page_sets image_runs extents update store"
@@ -61,6 +62,8 @@ def ending(entry):
     kind = "open" if entry["kind"] == "open" else entry["call"][0]
     if kind in ("write", "truncate", "read", "commit", "rollback"):
         kind += " in update" if entry["state"].updating else " direct"
+    if kind == "open" and answer[0] == "Done" and entry["count"] > 0 and entry["codec"].decode(entry["mem"])["flags"] & IMPORTING:
+        return kind, "import closed"
     return kind, str(answer[1]) if answer[0] == "Refused" else "accepted"
 
 
@@ -102,9 +105,13 @@ def works_out_the_checksum(entry):
     return entry["codec"].name == "realCodec" and ending(entry) == ("open", "accepted") and entry["count"] > 0
 
 
+def closes_an_import(entry):
+    return entry["codec"].name == "realCodec" and ending(entry) == ("open", "import closed")
+
+
 def kept():
-    """The calls that stay in the repository: some scenes whole, the shortest call of each kind and ending, and the shortest opening
-    that works out a checksum."""
+    """The calls that stay in the repository: some scenes whole, the shortest call of each kind and ending, and the shortest openings
+    that work out a checksum and that store one anew."""
     pool = [e for which in "abcr" for e in Lists(KEPT_SEED, which).run(900)]
     calls = [e for e in pool if e["tag"] in KEPT_SCENES and (e["par"], e["codec"].name) == (SETS["b"][0], "smallCodec")]
     by_length = sorted(pool, key=lambda e: len(theorems.statement(e)))
@@ -113,7 +120,7 @@ def kept():
         shortest.setdefault(ending(e), e)
     seen = {ending(e) for e in calls}
     calls += sorted((e for end, e in shortest.items() if end not in seen), key=lambda e: (e["codec"].name == "realCodec", ending(e)))
-    calls.append(next(e for e in by_length if works_out_the_checksum(e)))
+    calls += [next(e for e in by_length if asked(e)) for asked in (works_out_the_checksum, closes_an_import)]
     for e in calls:
         e["note"] = ": ".join(ending(e)) + (f" ({e['tag'].replace('_', ' ')})" if e["tag"] in KEPT_SCENES else "")
     return calls

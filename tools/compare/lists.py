@@ -96,7 +96,7 @@ class Lists:
             block["flags"] |= REFRESHING
             tx = r.choice((block["last_tx_id"], block["last_tx_id"], 0, 1))
             block.update(checksum_refresh_offset=r.randrange(size + 3), checksum_refresh_hash=r.randrange(200), checksum_refresh_tx_id=tx)
-        elif self.chance(20):
+        if self.chance(20):
             total = r.randrange(10)
             block["flags"] |= IMPORTING
             block.update(import_base_offset=base + r.randrange(3), import_total_size=total, import_written_until=min(total, max(0, room - 4)))
@@ -329,6 +329,12 @@ class Lists:
         else:
             self.state.overlay.size, self.state.overlay.dirty, self.state.overlay.recorded = self.bytes(3)
 
+    def open_again(self):
+        """What calls left is opened, in the middle of an import too; whether it is accepted, as all is that no other state led to."""
+        self.state, answer, mem = self.open(self.state.count, self.lent.mem)
+        self.lent, self.data = Lent(mem, [], [], [], [], []), None
+        return answer == ("Done",)
+
     def view(self):
         live = self.lent.numbers[:self.state.overlay.dirty]
         page = self.rnd.choice(live + [0, self.rnd.randrange(9)])
@@ -349,4 +355,7 @@ class Lists:
 
     def go_on(self, length):
         for _ in range(length):
+            seldom = 8 if self.state.block["flags"] & IMPORTING else 1
+            if not self.state.updating and self.chance(seldom) and not self.open_again():
+                return
             self.one()

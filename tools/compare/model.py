@@ -697,7 +697,11 @@ class Store:
                 return self.open_fresh(mem)
             block = self.codec.load(mem)
             self.test_place(count, block)
-            return State(count, block, False, self.no_overlay()), ("Done",), mem
+            s = State(count, block, False, self.no_overlay())
+            if block["flags"] & IMPORTING:
+                # 02, W-202: "closes it as `cancel_import` would and stores the superblock"
+                self.do_importCancel(s, Lent(mem, [], [], [], [], []))
+            return s, ("Done",), mem
         except Refuse as r:
             return State(count, None, False, self.no_overlay()), ("Refused", r.number, *r.values), mem
 

@@ -58,7 +58,8 @@ def both_open(p):
     return dict(size=p.P, runs=[], frames=2, calls=calls)
 
 
-def import_over_refresh(p):
+def import_closed_over_refresh(p):
+    """An opening closes an import, all of whose bytes are there, and leaves a refresh where it is."""
     base = p.S + 2
     fields = dict(flags=IMPORTING | REFRESHING | 2, checksum_refresh_offset=1, checksum_refresh_hash=9, import_base_offset=base, schema_version=4)
     calls = [("refreshStep", 0), ("refreshStep", 1), ("importFinish",), ("refreshStep", 1), ("refreshStep", p.M)]
@@ -91,4 +92,4 @@ def cut_first(p):
 
 
 SCENES = [unmerged_record, far_dirty, left_in_old_page, left_in_new_page, all_pages, cached_then_written, at_the_end_of_numbers, both_open,
-          import_over_refresh, moved_up, past_all_numbers, growth_first, cut_first]
+          import_closed_over_refresh, moved_up, past_all_numbers, growth_first, cut_first]

@@ -35,7 +35,7 @@ store.specs.Blocks| importing stale refreshing marks afterCommit afterImportBegi
 store.specs.Calls begin read write truncate commit rollback fileSize importBegin importChunk importFinish importCancel export checksum refresh refreshStep Lent Out out modeOf| short
 store.specs.Plan| storePlan
 store.specs.Store dirtyIn| noOverlay imageBytes unchanged plannedRuns commitOver restore doImportBegin doImportChunk doImportFinish doImportCancel doExport imageSum doChecksum doRefresh refreshFrom doRefreshStep store
-store.specs.Opening Opened| outside open′
+store.specs.Opening Opened| outside openImage closing open′
 """
 
 SHAPES = """-- Short forms of states, lent slices and refusals, for the compared calls.
