@@ -17,7 +17,7 @@ use Rattle.store.specs.Store.{store}
 use Rattle.store.specs.Blocks.{importing}
 use Rattle.store.specs.Opening.{Opened, open′}
 use Rattle.store.specs.RealCodec.{real-lawful}
-use Rattle.store.specs.ClosingLaws.{no-import}
+use Rattle.store.specs.ClosingLaws.{no-import, refused-unchanged}
 use Rattle.transfer.specs.OnMemory.{lent}
 use Rattle.encoding.specs.StateBytes.{stateBytes, stateIn, bytes-long}
 use Rattle.encoding.specs.Called.{Shown, showing, pick, stepShown, tooShort, outOf, OpenCalled, openCalled, openShown, openAt}
@@ -127,7 +127,7 @@ pub record Opens (st′ m′ : List ℕ) (x : Opened) : Type 0 where
   pub long : length st′ ≡ 336
   pub mem : m′ ≡ x .mem
 
-module _ (st an m : List ℕ) (n r : ℕ) (st′ m′ an′ : List ℕ) (h : openCalled r st′ m′ an′ ≡ openAt st an m n) (ok : r ≡ 0) where
+module _ (st an m : List ℕ) (n r : ℕ) (st′ m′ an′ : List ℕ) (h : openCalled r st′ m′ an′ ≡ openAt st an m n) where
   abbrev image : Opened
   image = open′ 16384 65536 8 1024 18446744073709551615 realCodec n m
 
@@ -147,27 +147,36 @@ module _ (st an m : List ℕ) (n r : ℕ) (st′ m′ an′ : List ℕ) (h : ope
   unfolding stepShown
   shown-number = pick-number (eqb (number (image .answer)) 35) (number (image .answer)) _ refl
 
-  accepts : tooShort st an ≡ false → number (image .answer) ≡ 0
-  accepts f = sym shown-number ∙ sym (ap (λ (z : OpenCalled). z .number) (h ∙ open-long f)) ∙ ok
-
-  shown-state : number (image .answer) ≡ 0 → stepShown st an (image .state) (image .answer) .next ≡ image .state
-  unfolding stepShown
-  shown-state e = rw (ne-eqb (number (image .answer)) 35 (λ q. omega (arith, e, q))) refl
-
-  shown-bytes : number (image .answer) ≡ 0 → stepShown st an (image .state) (image .answer) .state ≡ stateBytes (image .state)
-  unfolding stepShown
-  shown-bytes e = rw (ne-eqb (number (image .answer)) 35 (λ q. omega (arith, e, q))) refl
-
-  pub opens : Opens st′ m′ image
-  opens = split (tooShort st an)
-      (λ t. absurd (omega (arith, ok, ap (λ (z : OpenCalled). z .number) (h ∙ open-short t))))
+  -- 35 for `state` or `answer` included
+  refused-mem : (r ≡ 0 → ⊥) → m′ ≡ m
+  refused-mem refused = split (tooShort st an)
+      (λ t. ap (λ (z : OpenCalled). z .mem) (h ∙ open-short t))
       (λ f. let q : openCalled r st′ m′ an′ ≡ openShown st an image = h ∙ open-long f in
-      record {
-        accepted = accepts f;
-        state = ap (λ (z : OpenCalled). z .next) q ∙ shown-state (accepts f);
-        long = ap (λ (z : OpenCalled). length (z .state)) q ∙ ap length (shown-bytes (accepts f)) ∙ bytes-long (image .state);
-        mem = ap (λ (z : OpenCalled). z .mem) q;
-      })
+      ap (λ (z : OpenCalled). z .mem) q
+      ∙ refused-unchanged 16384 65536 8 1024 18446744073709551615 realCodec (omega arith) n m (λ e. refused (ap (λ (z : OpenCalled). z .number) q ∙ shown-number ∙ e)))
+
+  module _ (ok : r ≡ 0) where
+    accepts : tooShort st an ≡ false → number (image .answer) ≡ 0
+    accepts f = sym shown-number ∙ sym (ap (λ (z : OpenCalled). z .number) (h ∙ open-long f)) ∙ ok
+
+    shown-state : number (image .answer) ≡ 0 → stepShown st an (image .state) (image .answer) .next ≡ image .state
+    unfolding stepShown
+    shown-state e = rw (ne-eqb (number (image .answer)) 35 (λ q. omega (arith, e, q))) refl
+
+    shown-bytes : number (image .answer) ≡ 0 → stepShown st an (image .state) (image .answer) .state ≡ stateBytes (image .state)
+    unfolding stepShown
+    shown-bytes e = rw (ne-eqb (number (image .answer)) 35 (λ q. omega (arith, e, q))) refl
+
+    pub opens : Opens st′ m′ image
+    opens = split (tooShort st an)
+        (λ t. absurd (omega (arith, ok, ap (λ (z : OpenCalled). z .number) (h ∙ open-short t))))
+        (λ f. let q : openCalled r st′ m′ an′ ≡ openShown st an image = h ∙ open-long f in
+        record {
+          accepted = accepts f;
+          state = ap (λ (z : OpenCalled). z .next) q ∙ shown-state (accepts f);
+          long = ap (λ (z : OpenCalled). length (z .state)) q ∙ ap length (shown-bytes (accepts f)) ∙ bytes-long (image .state);
+          mem = ap (λ (z : OpenCalled). z .mem) q;
+        })
 
 -- ## The theorems
 
@@ -195,7 +204,7 @@ host-demand3 o ok bytes b w cs =
 -- THE OPENING FOR A HOST (02, W-202): `yuharopu_open` returned 0. No import is open in the state that it left, and an image that was there is the plain file
 -- that it was, also if its import was closed
 pub record HostOpens (o : COpened) : Type 0 where
-  pub alone : importing (stateIn (stateLeft o) .block) ≡ false
+  pub none-open : importing (stateIn (stateLeft o) .block) ≡ false
   pub same-file : Bytes (memoryPassed o) → (countPassed o ≡ 0 → ⊥) → plainOf (memoryLeft o) ≡ plainOf (memoryPassed o)
 
 pub host-opens : (o : COpened) → o .gave ≡ 0 → HostOpens o
@@ -204,7 +213,12 @@ host-opens o ok =
     let p : Opens (stateLeft o) (memoryLeft o) x =
     opens (statePassed o) (answerPassed o) (memoryPassed o) (countPassed o) (o .gave) (stateLeft o) (memoryLeft o) (answerLeft o) (open-by-c o) ok in
     record {
-      alone = ap (λ (s : State). importing (s .block)) (p .state) ∙ no-import 16384 65536 8 1024 18446744073709551615 realCodec (omega arith) (countPassed o) (memoryPassed o);
+      none-open = ap (λ (s : State). importing (s .block)) (p .state) ∙ no-import 16384 65536 8 1024 18446744073709551615 realCodec (omega arith) (countPassed o) (memoryPassed o);
       same-file = λ bytes some. ap plainOf (p .mem)
           ∙ ap closed (opened-file-given 16384 65536 8 1024 18446744073709551615 realCodec (omega arith) (omega arith) real-lawful (countPassed o) (memoryPassed o) bytes (open-typed o) some (p .accepted));
     }
+
+-- it returned anything else: memory is as it was
+pub host-refused : (o : COpened) → (o .gave ≡ 0 → ⊥) → memoryLeft o ≡ memoryPassed o
+host-refused o refused =
+    refused-mem (statePassed o) (answerPassed o) (memoryPassed o) (countPassed o) (o .gave) (stateLeft o) (memoryLeft o) (answerLeft o) (open-by-c o) refused

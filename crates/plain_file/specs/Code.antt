@@ -101,8 +101,8 @@ demand3-calls o ok bytes b w cs =
 -- ## The opening by itself (02, W-202)
 
 -- whatever `open` answered: no import is open in the state that it gave
-pub open-alone : (o : BlobOpened) → importing (o .gave .state .block) ≡ false
-open-alone o =
+pub open-no-import : (o : BlobOpened) → importing (o .gave .state .block) ≡ false
+open-no-import o =
     ap (λ (x : Opened). importing (x .state .block)) (by-open o)
     ∙ no-import 16384 65536 8 1024 18446744073709551615 realCodec (omega arith) (countPassed o) (memoryPassed o)
 

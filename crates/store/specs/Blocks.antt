@@ -120,6 +120,11 @@ module _ (b : Superblock) (i s r : Bool) (f : ℕ) (e : b .flags ≡ marks i s r
   unfolding marks
   marks-unknown = omega (arith, e, bit-small i, bit-small s, bit-small r)
 
+-- marks take the place of others
+pub marks-over : (i s r i′ s′ r′ : Bool) (f : ℕ) → marks i s r (marks i′ s′ r′ f) ≡ marks i s r f
+unfolding marks
+marks-over i s r i′ s′ r′ f = omega (arith, bit-small i′, bit-small s′, bit-small r′)
+
 -- ## Laws: the fields after each call
 
 -- a mark is read from the flags alone
@@ -183,7 +188,7 @@ pub after-cancel : (b : Superblock) → importing (afterImportCancel b) ≡ fals
 unfolding afterImportCancel
 after-cancel b = marks-importing _ (stale b) (refreshing b) (b .flags) false refl
 
--- 02, W-202, "as `cancel_import` would": the mark goes and the four import fields become 0, nothing else of the block changes
+-- 02, W-202, "as `cancel_import` would": the mark goes and the four import fields become 0, nothing else of the block changes before it is sealed
 pub record Cancels (b b′ : Superblock) : Type 0 where
   pub mark : importing b′ ≡ false
   pub expected : b′ .«import_expected_checksum» ≡ 0

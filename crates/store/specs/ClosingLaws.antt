@@ -7,6 +7,7 @@ use mathlib.Core.List.{List, []}
 use lib.Dec.{ltb, eqb}
 use lib.ListN.{length, getD}
 use borrow.Author.Tests.{ltb-false, le-ltb}
+use Rattle.config.specs.declared.StablePages.{StablePages}
 use Rattle.config.specs.declared.refusal.Refusal.{Refusal}
 use Rattle.config.specs.declared.refusal.Refusal.the-variants.{ImageOutOfMemory, ImportNotStarted, GrowFailed, BufferTooShort}
 use Rattle.config.specs.Pages.{count}
@@ -29,7 +30,7 @@ use Rattle.store.specs.Opening.{Opened, memoryAlone, openedBy, outside, 
 use Rattle.store.specs.Lawful.{Lawful, Good}
 use Rattle.store.specs.MemoryLaws.{grow-cases, stored-long}
 use Rattle.store.specs.Cases.{by-test}
-use Rattle.store.specs.OpeningLaws.{Opens, image-opens}
+use Rattle.store.specs.OpeningLaws.{Opens, image-count, image-opens}
 use Rattle.store.specs.RestoreLaws.{cancel-carries, restore-good}
 
 -- no update is open, and memory holds the count
@@ -149,6 +150,10 @@ module _ (P S C L M : ℕ) (k : Codec) where
         (λ x a. split (importing (x .state .block))
         (λ t. closes x a t .count)
         (λ f. ap (λ (y : Opened). y .state .count) (closing-unmarked P S C L M k x f)))
+
+    -- 01: "Opening is given that count"
+    pub count-given : (n ≡ 0 → ⊥) → open′ P S C L M k n m .state .count .0 ≡ n
+    count-given h = ap (λ (c : StablePages). c .0) open-count ∙ image-count P S C L M k n m h
 
     -- 01: refused with "memory unchanged"
     pub refused-unchanged : (number (open′ P S C L M k n m .answer) ≡ 0 → ⊥) → open′ P S C L M k n m .mem ≡ m

@@ -1,4 +1,4 @@
--- An image that 01's opening accepts is in order, the fresh one included; and its ways out.
+-- An image that 01's opening accepts is in order, the fresh one included; and only a fresh one is stored by it.
 use mathlib.Core.Path.{_≡_, refl, sym, ap, _∙_, subst}
 use Prim.Native.Nat.{ℕ, zero, suc, _+_, _-_, _*_, _/_, _≤_, _<_}
 use native.Mathlib.Nat.{mul-le-mul-right, pos-of-ne-zero, one-mul}
@@ -52,7 +52,7 @@ refusal-number FramesFull e = omega arith
 refusal-number RecordFull e = omega arith
 refusal-number BufferTooShort e = omega arith
 
--- only a fresh image is stored by 01's opening
+-- an image that is there stays as it is, with the count that is given
 module _ (P S C L M : ℕ) (k : Codec) (n : ℕ) (m : List ℕ) where
   loaded-mem : (x : Loaded) → openLoaded P S C L M k n m x .mem ≡ m
   loaded-mem (NotLoaded r) = refl
@@ -62,6 +62,15 @@ module _ (P S C L M : ℕ) (k : Codec) (n : ℕ) (m : List ℕ) where
   unfolding openImage
   image-mem h = by-test (λ (y : Opened). y .mem ≡ m) (ltb (length m) (n * S)) _ _ (λ t. refl)
       (λ f. by-test (λ (y : Opened). y .mem ≡ m) (eqb n 0) _ _ (λ z. absurd (h (eqb-true n 0 z))) (λ z. loaded-mem (k .load m)))
+
+  loaded-count : (x : Loaded) → openLoaded P S C L M k n m x .state .count .0 ≡ n
+  loaded-count (NotLoaded r) = refl
+  loaded-count (Block b) = by-test (λ (y : Opened). y .state .count .0 ≡ n) (outside P S C L M k n b) _ _ (λ t. refl) (λ f. refl)
+
+  pub image-count : (n ≡ 0 → ⊥) → openImage P S C L M k n m .state .count .0 ≡ n
+  unfolding openImage
+  image-count h = by-test (λ (y : Opened). y .state .count .0 ≡ n) (ltb (length m) (n * S)) _ _ (λ t. refl)
+      (λ f. by-test (λ (y : Opened). y .state .count .0 ≡ n) (eqb n 0) _ _ (λ z. absurd (h (eqb-true n 0 z))) (λ z. loaded-count (k .load m)))
 
 module _ (P S C L M : ℕ) (k : Codec) (spos : 0 < S) (laws : Lawful S L M k) where
   pub record Opens (x : Opened) : Type 0 where

@@ -30,7 +30,7 @@ use Rattle.update.specs.Refused.{Weak}
 use Rattle.store.specs.declared.State.{State}
 use Rattle.store.specs.declared.Answer.{Answer}
 use Rattle.store.specs.declared.Answer.the-variants.{Done, Read, Refused}
-use Rattle.store.specs.Codec.{Codec, sealed, stored}
+use Rattle.store.specs.Codec.{Codec}
 use Rattle.store.specs.Blocks.{importing, refreshing}
 use Rattle.store.specs.Calls.{Call, begin, read, write, truncate, commit, rollback, fileSize, importBegin, importChunk, importFinish, importCancel, export, checksum, refresh, refreshStep, Lent, Out, out, number, uses, lentBytes, Mode, idle, update, modeOf, short, cleared, withMem, withBuffers}
 use Rattle.store.specs.Plan.{required}

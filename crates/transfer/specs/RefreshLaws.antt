@@ -22,7 +22,7 @@ use Rattle.update.specs.Lists.{tabulateFrom}
 use Rattle.update.specs.Image.{imageIn}
 use Rattle.store.specs.declared.State.{State}
 use Rattle.store.specs.declared.Answer.the-variants.{Done, Refreshed, Refused}
-use Rattle.store.specs.Blocks.{bit, importing, stale, refreshing, marks, marks-importing, setFlags, setRefresh, setNumbers, afterImportChunk, afterRefresh, afterRefreshStep}
+use Rattle.store.specs.Blocks.{importing, stale, refreshing, marks, marks-importing, marks-stale, marks-refreshing, marks-over, setFlags, setRefresh, setNumbers, afterImportChunk, afterRefresh, afterRefreshStep}
 use Rattle.store.specs.Store.{onward}
 use Rattle.transfer.specs.Steps.{StepOut, stepOut, step, restoreTo, placeTo, chunkReach, chunkTo, reached, refreshTo, refreshStepTo}
 
@@ -98,26 +98,9 @@ pending k = cond (refreshing k) (cond (eqb (k .«checksum_refresh_tx_id») (k .�
 abbrev pub givenUp : Superblock → Superblock
 givenUp k = setFlags (marks (importing k) (stale k) false (k .flags)) (setRefresh 0 0 0 k)
 
-bit-most : (t : Bool) → bit t ≤ 1
-bit-most true = omega arith
-bit-most false = omega arith
-
-marks-over : (i s r i′ s′ r′ : Bool) (f : ℕ) → marks i s r (marks i′ s′ r′ f) ≡ marks i s r f
-unfolding marks
-marks-over i s r i′ s′ r′ f = omega (arith, bit-most i′, bit-most s′, bit-most r′)
-
-marks-stale : (k : Superblock) (i s r : Bool) (f : ℕ) → k .flags ≡ marks i s r f → stale k ≡ s
-unfolding stale marks
-marks-stale k i true r f e = eq-eqb (k .flags / 2 % 2) 1 (omega (arith, bit-most i, bit-most r))
-marks-stale k i false r f e = ne-eqb (k .flags / 2 % 2) 1 (omega (arith, bit-most i, bit-most r))
-
-marks-refreshing : (k : Superblock) (i s : Bool) (f : ℕ) → k .flags ≡ marks i s false f → refreshing k ≡ false
-unfolding refreshing marks
-marks-refreshing k i s f e = ne-eqb (k .flags / 4 % 2) 1 (omega (arith, bit-most i, bit-most s))
-
 module _ (k : Superblock) where
   not-refreshing : refreshing (givenUp k) ≡ false
-  not-refreshing = marks-refreshing (givenUp k) (importing k) (stale k) (k .flags) refl
+  not-refreshing = marks-refreshing (givenUp k) (importing k) (stale k) false (k .flags) refl
 
   same-importing : importing (givenUp k) ≡ importing k
   same-importing = marks-importing (givenUp k) (stale k) false (k .flags) (importing k) refl
