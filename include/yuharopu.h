@@ -112,9 +112,9 @@ uint64_t yuharopu_plan(uint64_t *work, size_t work_len, const uint64_t *extents,
  * page becomes zeros and its superblock is stored; 32 where `mem` has no stable page.
  * 1, 2, 3, 4: memory stays. After a refusal but 35 the state is one without image, whose superblock is zeros.
  * An import does not outlive the opening: where the accepted image has the importing mark, it is closed as
- * yuharopu_cancel_import would close it, and the superblock is stored. The mark and the four import fields become 0; the
- * file, every other field and the count stay, and so do the bytes that were imported, behind the file. A complete import
- * is closed too. An image without the mark is not changed. */
+ * yuharopu_cancel_import would close it, and the superblock is stored. The mark and the four import fields become 0 and
+ * the superblock's own checksum is made anew; its other fields, the file, the count and the bytes that were imported
+ * stay. A complete import is closed too. An image without the mark is not changed. */
 uint64_t yuharopu_open(uint8_t *state, size_t state_len, uint8_t *mem, size_t mem_len, uint64_t count, uint64_t *answer,
                        size_t answer_len);
 

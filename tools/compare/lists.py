@@ -98,8 +98,9 @@ class Lists:
             block.update(checksum_refresh_offset=r.randrange(size + 3), checksum_refresh_hash=r.randrange(200), checksum_refresh_tx_id=tx)
         if self.chance(20):
             total = r.randrange(10)
+            written = min(r.choice((0, 1, total)), total, max(0, room - 4))
             block["flags"] |= IMPORTING
-            block.update(import_base_offset=base + r.randrange(3), import_total_size=total, import_written_until=min(total, max(0, room - 4)))
+            block.update(import_base_offset=base + r.randrange(3), import_total_size=total, import_written_until=written)
             block["import_expected_checksum"] = r.randrange(9)
         return block
 
@@ -330,7 +331,7 @@ class Lists:
             self.state.overlay.size, self.state.overlay.dirty, self.state.overlay.recorded = self.bytes(3)
 
     def open_again(self):
-        """What calls left is opened, in the middle of an import too; whether it is accepted, as all is that no other state led to."""
+        """Opens what the calls left, in the middle of an import too; tells whether it is accepted, which fails only after other_state."""
         self.state, answer, mem = self.open(self.state.count, self.lent.mem)
         self.lent, self.data = Lent(mem, [], [], [], [], []), None
         return answer == ("Done",)
@@ -355,7 +356,7 @@ class Lists:
 
     def go_on(self, length):
         for _ in range(length):
-            seldom = 8 if self.state.block["flags"] & IMPORTING else 1
-            if not self.state.updating and self.chance(seldom) and not self.open_again():
+            percent = 8 if self.state.block["flags"] & IMPORTING else 1
+            if not self.state.updating and self.chance(percent) and not self.open_again():
                 return
             self.one()

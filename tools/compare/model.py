@@ -1,4 +1,5 @@
-"""A plain model of the store, written from document 01, its readings and the Rust original. It is the judge of the definitions."""
+"""A plain model of the store, written from document 01, its readings and the Rust original, with the requests of document 02. It is the judge of
+the definitions."""
 import copy
 from dataclasses import dataclass, field
 

@@ -59,7 +59,7 @@ def both_open(p):
 
 
 def import_closed_over_refresh(p):
-    """An opening closes an import, all of whose bytes are there, and leaves a refresh where it is."""
+    """An opening closes an import of 0 bytes, which is complete, and leaves a refresh where it is."""
     base = p.S + 2
     fields = dict(flags=IMPORTING | REFRESHING | 2, checksum_refresh_offset=1, checksum_refresh_hash=9, import_base_offset=base, schema_version=4)
     calls = [("refreshStep", 0), ("refreshStep", 1), ("importFinish",), ("refreshStep", 1), ("refreshStep", p.M)]

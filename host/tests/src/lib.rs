@@ -1,7 +1,7 @@
 //! Superblocks made from a recipe and an index, answered by the library and by the original, and compared; plans of
 //! commits, from a seed or made by hand; and lists of calls on an image.
 //!
-//! Where the original's files are not at hand, its recorded answers stand for it, and models of document 01.
+//! Where the original's files are not at hand, its recorded answers stand for it, and models of documents 01 and 02.
 
 pub mod answer;
 pub mod block;

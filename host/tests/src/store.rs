@@ -1,4 +1,4 @@
-//! Lists of calls on an image, run by the library, by the original, by a model of document 01 and by its plain file.
+//! Lists of calls on an image, run by the library, by the original, by a model of documents 01 and 02 and by their plain file.
 
 pub mod act;
 pub mod buffers;

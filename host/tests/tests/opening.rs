@@ -1,13 +1,13 @@
 //! Openings of images in an import: "An import no longer outlives the opening of the image." (02, W-202)
 
 use conformance::block::{
-    self, Block, BASE, CHECKSUM, FIELDS, FLAGS, IMPORT, IMPORTING, REFRESH, SCHEMA, SIZE, SUM, TX,
+    self, Block, BASE, CHECKSUM, FIELDS, FLAGS, IMPORT, IMPORTING, REFRESH, SCHEMA, SIZE,
+    STABLE_PAGE, SUM, TX,
 };
 use conformance::prng::Prng;
 use conformance::store::{Act, Buffers, Bytes, Call, Made, Outcome, Room, Run};
-use yuharopu::{Error, Store};
+use yuharopu::{raw, Error, Store};
 
-const STABLE_PAGE: usize = 65_536;
 const COUNT: u64 = 3;
 const ROOM: Room = Room {
     frames: 2,
@@ -44,7 +44,7 @@ fn made(block: &Block) -> Made {
     }
 }
 
-/// Opened by the library, the model and the original, which agree; memory before is `made(block)`.
+/// Opened by the library, the model and the original, which agree.
 fn open(made: &Made) -> (Outcome, Option<Run>) {
     Run::open(made, Buffers::noise(7, ROOM)).unwrap_or_else(|text| panic!("{text}"))
 }
@@ -207,6 +207,29 @@ fn a_refused_opening_closes_nothing() {
         let (outcome, run) = open(&made);
         assert_eq!(outcome.number, refusal, "field {field}");
         assert!(run.is_none());
+    }
+}
+
+/// Runs that are not normalized, and 35: of memory that is shorter than the count, of a state and of an answer without room.
+#[test]
+fn an_opening_refused_by_3_or_35_closes_nothing() {
+    let mut block = with(block::COUNT, 2);
+    block.runs = vec![9, 12, 4, 6];
+    assert_eq!(open(&made(&block)).0.number, 3);
+
+    let memory = made(&half_import()).memory;
+    let lens = [
+        (336, 4, COUNT as usize * STABLE_PAGE - 1),
+        (335, 4, memory.len()),
+        (337, 4, memory.len()),
+        (336, 3, memory.len()),
+    ];
+    for (state, answer, len) in lens {
+        let mut lent = memory[..len].to_vec();
+        let (mut state, mut answer) = (vec![7; state], vec![7; answer]);
+        assert_eq!(raw::open(&mut state, &mut lent, COUNT, &mut answer), 35);
+        assert!(lent == memory[..len] && state.iter().all(|byte| *byte == 7));
+        assert!(answer.iter().all(|number| *number == 7));
     }
 }
 

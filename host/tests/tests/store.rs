@@ -1,4 +1,4 @@
-//! Random lists of calls, run by the library beside the original, a model of document 01 and its plain file.
+//! Random lists of calls, run by the library beside the original, a model of documents 01 and 02 and their plain file.
 //!
 //! `YUHAROPU_SEED` takes the place of the seed and `YUHAROPU_CALLS` that of the number of calls.
 

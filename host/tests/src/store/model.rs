@@ -1,4 +1,4 @@
-//! The store after document 01, written apart from the library: every call's answer, and memory afterwards.
+//! The store after document 01 and the requests of document 02, written apart from the library: every call's answer, and memory afterwards.
 
 mod opening;
 mod transfer;

@@ -85,7 +85,8 @@ impl Run {
     }
 
     /// After an opening of memory that had these stable pages in use, none for a fresh image. "An import no longer outlives the
-    /// opening of the image": the file is the one that was there, and nothing else of memory changed than closes an import.
+    /// opening of the image": the file is the one that was there, and memory changed only where the closing of an import
+    /// changes it.
     fn check_opened(&mut self, before: &[u8]) -> Held<()> {
         self.check()?;
         self.check_original()?;
@@ -132,7 +133,7 @@ impl Run {
         }
     }
 
-    /// What a list leaves in memory can be opened, and gives the state that there was; but for an import, which is closed.
+    /// What a list leaves in memory can be opened, and gives the state that there was, but for an import, which is closed.
     fn reopen(&mut self) -> Held<Outcome> {
         self.check()?;
         let (memory, count) = (self.library.memory.clone(), self.model.count);
