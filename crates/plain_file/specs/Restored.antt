@@ -70,4 +70,4 @@ module _ (P S C L M : ℕ) (k : Codec) (pos : 0 < P) (spos : 0 < S) (laws : Lawf
 
   -- of an image that was there, the one of the memory that was given
   pub opened-file-given : (n : ℕ) (m : List ℕ) → Bytes m → length m ≤ M → (n ≡ 0 → ⊥) → number (open′ P S C L M k n m .answer) ≡ 0 → fileOf P S L M k (open′ P S C L M k n m .mem) ≡ fileOf P S L M k m
-  opened-file-given n m bytes most some ok = opened-file n m bytes most ok ∙ ap (fileOf P S L M k) (image-mem P S C L M k n m some)
+  opened-file-given n m bytes most some ok = opened-file n m bytes most ok ∙ ap (fileOf P S L M k) (image-mem P S C L M k spos n m some)

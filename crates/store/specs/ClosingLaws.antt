@@ -4,19 +4,15 @@ use Prim.Native.Nat.{ℕ, _*_, _≤_, _<_}
 use native.Mathlib.Omega.{arith}
 use mathlib.Core.Bool.{Bool, true, false, not, cond, _||_}
 use mathlib.Core.List.{List, []}
-use lib.Dec.{ltb, eqb}
 use lib.ListN.{length, getD}
-use borrow.Author.Tests.{ltb-false, le-ltb}
+use borrow.Author.Tests.{le-ltb}
 use Rattle.config.specs.declared.StablePages.{StablePages}
 use Rattle.config.specs.declared.refusal.Refusal.{Refusal}
-use Rattle.config.specs.declared.refusal.Refusal.the-variants.{ImageOutOfMemory, ImportNotStarted, GrowFailed, BufferTooShort}
+use Rattle.config.specs.declared.refusal.Refusal.the-variants.{ImportNotStarted, BufferTooShort}
 use Rattle.config.specs.Pages.{count}
 use Rattle.memory.specs.Laws.{split, overwrite-hi}
-use Rattle.memory.specs.Growth.{stable}
 use Rattle.meta.specs.declared.superblock.Superblock.{Superblock}
 use Rattle.meta.specs.declared.ZeroExtent.{ZeroExtent}
-use Rattle.meta_load.specs.declared.Loaded.{Loaded}
-use Rattle.meta_load.specs.declared.Loaded.the-variants.{Block, Refused as NotLoaded}
 use Rattle.words.specs.Words.{Bytes}
 use Rattle.update.specs.ListLaws.{clash}
 use Rattle.update.specs.Buffers.{Buffers}
@@ -26,11 +22,10 @@ use Rattle.store.specs.Codec.{Codec, sealed, stored}
 use Rattle.store.specs.Blocks.{importing, afterImportCancel, after-cancel, seal-importing}
 use Rattle.store.specs.Calls.{importCancel, Lent, out, number, modeIf, short}
 use Rattle.store.specs.Store.{refuse, runsOf, restore, doImportCancel, alone, act, store}
-use Rattle.store.specs.Opening.{Opened, memoryAlone, openedBy, outside, notOpened, openFresh, openLoaded, openImage, closing, closing-marked, closing-unmarked, open′}
+use Rattle.store.specs.Opening.{Opened, memoryAlone, openedBy, notOpened, openImage, closing, closing-marked, closing-unmarked, open′}
 use Rattle.store.specs.Lawful.{Lawful, Good}
-use Rattle.store.specs.MemoryLaws.{grow-cases, stored-long}
-use Rattle.store.specs.Cases.{by-test}
-use Rattle.store.specs.OpeningLaws.{Opens, image-count, image-opens}
+use Rattle.store.specs.MemoryLaws.{stored-long}
+use Rattle.store.specs.OpeningLaws.{Opens, image-cases, image-count, image-opens}
 use Rattle.store.specs.RestoreLaws.{cancel-carries, restore-good}
 
 -- no update is open, and memory holds the count
@@ -96,23 +91,13 @@ module _ (P S C L M : ℕ) (k : Codec) where
   stays-refused : (c : ℕ) (m : List ℕ) (r : Refusal) → closing P S C L M k (notOpened P S C L M k c m r) ≡ notOpened P S C L M k c m r
   stays-refused c m r = closing-unmarked P S C L M k (notOpened P S C L M k c m r) (no-mark c m r)
 
-  -- ## 01's opening by its ways out
-
   module _ (spos : 0 < S) (n : ℕ) (m : List ℕ) where
-    module _ (Q : Opened → Type 0) (no : (c : ℕ) (r : Refusal) → Q (notOpened P S C L M k c m r)) (yes : (x : Opened) → Accepts S x → Q x) where
-      loaded-cases : n * S ≤ length m → (y : Loaded) → Q (openLoaded P S C L M k n m y)
-      loaded-cases held (NotLoaded r) = no n r
-      loaded-cases held (Block b) = by-test Q (outside P S C L M k n b) _ _ (λ t. no n ImageOutOfMemory) (λ f. yes _ (record { done = refl; idle = refl; held = held }))
-
-      image-cases : Q (openImage P S C L M k n m)
-      unfolding openImage
-      image-cases = by-test Q (ltb (length m) (n * S)) _ _
-          (λ t. no n BufferTooShort)
-          (λ f. by-test Q (eqb n 0) _ _
-          (λ z. grow-cases S spos 0 S m (omega arith) (λ g m′. Q (openFresh P S C L M k m m′ g))
-          (λ r m′ q c. yes _ (record { done = refl; idle = refl; held = omega (arith, q .lent, q .same-length, stored-long k (k .fresh) [] m′) }))
-          (λ c. no 0 (GrowFailed (stable 0) (stable (count S S)))))
-          (λ z. loaded-cases (ltb-false (length m) (n * S) f) (k .load m)))
+    -- 01's opening, refused or accepted
+    either : (Q : Opened → Type 0) → ((c : ℕ) (r : Refusal) → Q (notOpened P S C L M k c m r)) → ((x : Opened) → Accepts S x → Q x) → Q (openImage P S C L M k n m)
+    either Q refused accepted = image-cases P S C L M k spos n m Q
+        (λ c e r. refused c r)
+        (λ z r g q. accepted _ (record { done = refl; idle = refl; held = omega (arith, q .lent, q .same-length, stored-long k (k .fresh) [] g) }))
+        (λ some held b e f. accepted _ (record { done = refl; idle = refl; held = held }))
 
     -- ## Opening
 
@@ -132,12 +117,12 @@ module _ (P S C L M : ℕ) (k : Codec) where
     pub open-marked : importing (first .state .block) ≡ true → (b : Buffers) (w : List ℕ)
         → open′ P S C L M k n m ≡ openedBy (store P S C L M k (first .state) (record { mem = first .mem; bufs = b; work = w }) importCancel)
     unfolding open′
-    open-marked = image-cases AsCall (λ c r e b w. absurd (clash e (no-mark c m r))) (λ x a e b w. closes-alike x a e b w)
+    open-marked = either AsCall (λ c r e b w. absurd (clash e (no-mark c m r))) (λ x a e b w. closes-alike x a e b w)
 
     -- it is answered as by 01's checks
     pub open-answer : open′ P S C L M k n m .answer ≡ first .answer
     unfolding open′
-    open-answer = image-cases (λ x. closing P S C L M k x .answer ≡ x .answer)
+    open-answer = either (λ x. closing P S C L M k x .answer ≡ x .answer)
         (λ c r. ap (λ (x : Opened). x .answer) (stays-refused c m r))
         (λ x a. split (importing (x .state .block))
         (λ t. closes x a t .answer ∙ sym (a .done))
@@ -145,7 +130,7 @@ module _ (P S C L M : ℕ) (k : Codec) where
 
     pub open-count : open′ P S C L M k n m .state .count ≡ first .state .count
     unfolding open′
-    open-count = image-cases (λ x. closing P S C L M k x .state .count ≡ x .state .count)
+    open-count = either (λ x. closing P S C L M k x .state .count ≡ x .state .count)
         (λ c r. ap (λ (x : Opened). x .state .count) (stays-refused c m r))
         (λ x a. split (importing (x .state .block))
         (λ t. closes x a t .count)
@@ -153,12 +138,12 @@ module _ (P S C L M : ℕ) (k : Codec) where
 
     -- 01: "Opening is given that count"
     pub count-given : (n ≡ 0 → ⊥) → open′ P S C L M k n m .state .count .0 ≡ n
-    count-given h = ap (λ (c : StablePages). c .0) open-count ∙ image-count P S C L M k n m h
+    count-given h = ap (λ (c : StablePages). c .0) open-count ∙ image-count P S C L M k spos n m h
 
     -- 01: refused with "memory unchanged"
     pub refused-unchanged : (number (open′ P S C L M k n m .answer) ≡ 0 → ⊥) → open′ P S C L M k n m .mem ≡ m
     unfolding open′
-    refused-unchanged = image-cases (λ x. (number (closing P S C L M k x .answer) ≡ 0 → ⊥) → closing P S C L M k x .mem ≡ m)
+    refused-unchanged = either (λ x. (number (closing P S C L M k x .answer) ≡ 0 → ⊥) → closing P S C L M k x .mem ≡ m)
         (λ c r h. ap (λ (x : Opened). x .mem) (stays-refused c m r))
         (λ x a h. split (importing (x .state .block))
         (λ t. absurd (h (ap number (closes x a t .answer))))
@@ -167,7 +152,7 @@ module _ (P S C L M : ℕ) (k : Codec) where
     -- 02: "An import no longer outlives the opening of the image."
     pub no-import : importing (open′ P S C L M k n m .state .block) ≡ false
     unfolding open′
-    no-import = image-cases (λ x. importing (closing P S C L M k x .state .block) ≡ false)
+    no-import = either (λ x. importing (closing P S C L M k x .state .block) ≡ false)
         (λ c r. ap (λ (x : Opened). importing (x .state .block)) (stays-refused c m r) ∙ no-mark c m r)
         (λ x a. split (importing (x .state .block))
         (λ t. closed-unmarked x a t)
@@ -176,7 +161,7 @@ module _ (P S C L M : ℕ) (k : Codec) where
     -- what is left of an image with the mark
     pub open-closes : importing (first .state .block) ≡ true → Closes first (open′ P S C L M k n m)
     unfolding open′
-    open-closes = image-cases (λ x. importing (x .state .block) ≡ true → Closes x (closing P S C L M k x))
+    open-closes = either (λ x. importing (x .state .block) ≡ true → Closes x (closing P S C L M k x))
         (λ c r e. absurd (clash e (no-mark c m r)))
         (λ x a e. closes x a e)
 

@@ -1,29 +1,30 @@
--- An image that 01's opening accepts is in order, the fresh one included; and only a fresh one is stored by it.
-use mathlib.Core.Path.{_≡_, refl, sym, ap, _∙_, subst}
-use Prim.Native.Nat.{ℕ, zero, suc, _+_, _-_, _*_, _/_, _≤_, _<_}
+-- 01's opening by its ways out: an image that it accepts is in order, the fresh one included, and only a fresh one is stored by it.
+use mathlib.Core.Path.{_≡_, refl, sym, ap, _∙_}
+use Prim.Native.Nat.{ℕ, _+_, _-_, _*_, _≤_, _<_}
 use native.Mathlib.Nat.{mul-le-mul-right, pos-of-ne-zero, one-mul}
 use native.Mathlib.Omega.{arith}
-use mathlib.Core.Bool.{Bool, true, false, cond, _&&_, _||_}
+use mathlib.Core.Bool.{Bool, true, false, _||_}
 use mathlib.Core.List.{List, []}
 use lib.Dec.{ltb, eqb}
 use lib.ListN.{length}
-use borrow.Author.Tests.{ltb-true, ltb-false, eqb-true, eqb-false}
+use borrow.Author.Tests.{ltb-false, eqb-true, eqb-false}
 use Rattle.config.specs.declared.refusal.Refusal.{Refusal}
 use Rattle.config.specs.declared.refusal.Refusal.the-variants.{ForeignStableMemoryImage, UnsupportedLayoutVersion, MetaChecksumMismatch, ImageOutOfMemory, ImportAlreadyStarted, ImportNotStarted, UpdateInProgress, UpdateBegunTwice, OffsetOverflow, ImportOutOfOrder, ImportOutOfBounds, ImportIncomplete, ChecksumMismatch, ChecksumRefreshChunkEmpty, BudgetExceeded, ZeroExtentLimitExceeded, GrowFailed, FramesFull, RecordFull, BufferTooShort}
 use Rattle.config.specs.Refusals.{numbersOf}
 use Rattle.config.specs.Pages.{count}
-use Rattle.memory.specs.Growth.{growTo, stable}
-use Rattle.memory.specs.Laws.{split}
-use Rattle.memory.specs.declared.Growth.{Growth}
+use Rattle.memory.specs.Growth.{stable}
+use Rattle.memory.specs.declared.Growth.the-variants.{Grown}
 use Rattle.meta.specs.declared.superblock.Superblock.{Superblock}
 use Rattle.meta_load.specs.declared.Loaded.{Loaded}
 use Rattle.meta_load.specs.declared.Loaded.the-variants.{Block, Refused as NotLoaded}
 use Rattle.words.specs.Words.{Bytes}
-use Rattle.meta.specs.Runs.{normalized, normalized-nil}
-use Rattle.update.specs.ListLaws.{clash, tests}
+use Rattle.meta.specs.Runs.{normalized-nil}
+use Rattle.update.specs.ListLaws.{clash}
+use Rattle.store.specs.declared.Answer.the-variants.{Done}
 use Rattle.store.specs.Codec.{Codec, sealed, stored}
 use Rattle.store.specs.Blocks.{importing, seal-importing}
 use Rattle.store.specs.Calls.{number}
+use Rattle.store.specs.Store.{resting, noOverlay}
 use Rattle.store.specs.Opening.{Opened, outside, notOpened, openFresh, openLoaded, openImage}
 use Rattle.store.specs.Lawful.{Fits, LoadedAs, Lawful, Good}
 use Rattle.store.specs.MemoryLaws.{Reaches, grow-cases, stored-length}
@@ -52,25 +53,35 @@ refusal-number FramesFull e = omega arith
 refusal-number RecordFull e = omega arith
 refusal-number BufferTooShort e = omega arith
 
--- an image that is there stays as it is, with the count that is given
-module _ (P S C L M : ℕ) (k : Codec) (n : ℕ) (m : List ℕ) where
-  loaded-mem : (x : Loaded) → openLoaded P S C L M k n m x .mem ≡ m
-  loaded-mem (NotLoaded r) = refl
-  loaded-mem (Block b) = by-test (λ (y : Opened). y .mem ≡ m) (outside P S C L M k n b) _ _ (λ t. refl) (λ f. refl)
+module _ (P S C L M : ℕ) (k : Codec) (spos : 0 < S) (n : ℕ) (m : List ℕ) where
+  -- the image that is there, with this block
+  abbrev there : Superblock → Opened
+  there b = record { state = resting n b (noOverlay P S C L M k); answer = Done; mem = m }
 
+  -- 01's opening by its ways out: refused, a fresh image, or one that is there
+  module _ (Q : Opened → Type 0) (no : (c : ℕ) → c ≡ n → (r : Refusal) → Q (notOpened P S C L M k c m r))
+      (made : n ≡ 0 → (r : ℕ) (g : List ℕ) → Reaches S 0 S m r g → Q (openFresh P S C L M k m g (Grown (stable r))))
+      (found : (n ≡ 0 → ⊥) → n * S ≤ length m → (b : Superblock) → k .load m ≡ Block b → outside P S C L M k n b ≡ false → Q (there b)) where
+    loaded-cases : (n ≡ 0 → ⊥) → n * S ≤ length m → (x : Loaded) → k .load m ≡ x → Q (openLoaded P S C L M k n m x)
+    loaded-cases some held (NotLoaded r) e = no n refl r
+    loaded-cases some held (Block b) e = by-test Q (outside P S C L M k n b) _ _ (λ t. no n refl ImageOutOfMemory) (λ f. found some held b e f)
+
+    pub image-cases : Q (openImage P S C L M k n m)
+    unfolding openImage
+    image-cases = by-test Q (ltb (length m) (n * S)) _ _
+        (λ t. no n refl BufferTooShort)
+        (λ f. by-test Q (eqb n 0) _ _
+        (λ z. grow-cases S spos 0 S m (omega arith) (λ g m′. Q (openFresh P S C L M k m m′ g))
+        (λ r m′ q c. made (eqb-true n 0 z) r m′ q)
+        (λ c. no 0 (sym (eqb-true n 0 z)) (GrowFailed (stable 0) (stable (count S S)))))
+        (λ z. loaded-cases (eqb-false n 0 z) (ltb-false (length m) (n * S) f) (k .load m) refl))
+
+  -- an image that is there stays as it is, with the count that is given
   pub image-mem : (n ≡ 0 → ⊥) → openImage P S C L M k n m .mem ≡ m
-  unfolding openImage
-  image-mem h = by-test (λ (y : Opened). y .mem ≡ m) (ltb (length m) (n * S)) _ _ (λ t. refl)
-      (λ f. by-test (λ (y : Opened). y .mem ≡ m) (eqb n 0) _ _ (λ z. absurd (h (eqb-true n 0 z))) (λ z. loaded-mem (k .load m)))
-
-  loaded-count : (x : Loaded) → openLoaded P S C L M k n m x .state .count .0 ≡ n
-  loaded-count (NotLoaded r) = refl
-  loaded-count (Block b) = by-test (λ (y : Opened). y .state .count .0 ≡ n) (outside P S C L M k n b) _ _ (λ t. refl) (λ f. refl)
+  image-mem some = image-cases (λ x. x .mem ≡ m) (λ c e r. refl) (λ z r g q. absurd (some z)) (λ h held b e f. refl)
 
   pub image-count : (n ≡ 0 → ⊥) → openImage P S C L M k n m .state .count .0 ≡ n
-  unfolding openImage
-  image-count h = by-test (λ (y : Opened). y .state .count .0 ≡ n) (ltb (length m) (n * S)) _ _ (λ t. refl)
-      (λ f. by-test (λ (y : Opened). y .state .count .0 ≡ n) (eqb n 0) _ _ (λ z. absurd (h (eqb-true n 0 z))) (λ z. loaded-count (k .load m)))
+  image-count some = image-cases (λ x. x .state .count .0 ≡ n) (λ c e r. e) (λ z r g q. absurd (some z)) (λ h held b e f. refl)
 
 module _ (P S C L M : ℕ) (k : Codec) (spos : 0 < S) (laws : Lawful S L M k) where
   pub record Opens (x : Opened) : Type 0 where
@@ -138,21 +149,10 @@ module _ (P S C L M : ℕ) (k : Codec) (spos : 0 < S) (laws : Lawful S L M k) wh
           import-range = λ y. ltb-false M (b .«import_base_offset» + b .«import_total_size») (no-or I3 I4 (no-or I2 (I3 || I4) (i2 y) .1) .1);
         }
 
-    load-opens : (x : Loaded) → S ≤ length m → k .load m ≡ x → Fine (openLoaded P S C L M k n m x)
-    load-opens (NotLoaded r) l e = λ h. absurd (refusal-number r h)
-    load-opens (Block b) l e = by-test Fine (outside P S C L M k n b) _ _
-        (λ t h. absurd (refusal-number ImageOutOfMemory h))
-        (λ f h. record { idle = refl; good = loaded-good b l e f })
-
   -- every image that 01's opening accepts is in order
   pub image-opens : (n : ℕ) (m : List ℕ) → Bytes m → length m ≤ M → number (openImage P S C L M k n m .answer) ≡ 0 → Opens (openImage P S C L M k n m)
-  unfolding openImage
-  image-opens n m bytes most = by-test Fine (ltb (length m) (n * S)) _ _
-      (λ t h. absurd (refusal-number BufferTooShort h))
-      (λ f. let held : n * S ≤ length m = ltb-false (length m) (n * S) f in
-      by-test Fine (eqb n 0) _ _
-      (λ z. grow-cases S spos 0 S m (omega arith) (λ g m′. Fine (openFresh P S C L M k m m′ g))
-      (λ r m′ q c h. record { idle = refl; good = fresh-good m r m′ q })
-      (λ c h. absurd (refusal-number (GrowFailed (stable 0) (stable (count S S))) h)))
-      (λ z. let one : 1 ≤ n = pos-of-ne-zero (eqb-false n 0 z) in
-      load-opens n m bytes most held (k .load m) (omega (arith, mul-le-mul-right S one, one-mul S)) refl))
+  image-opens n m bytes most = image-cases P S C L M k spos n m Fine
+      (λ c e r h. absurd (refusal-number r h))
+      (λ z r g q h. record { idle = refl; good = fresh-good m r g q })
+      (λ some held b e f h. let one : 1 ≤ n = pos-of-ne-zero some in
+      record { idle = refl; good = loaded-good n m bytes most held b (omega (arith, mul-le-mul-right S one, one-mul S)) e f })
