@@ -20,6 +20,8 @@ ROOT = pathlib.Path(__file__).resolve().parents[2]
 DEPS = "config memory words fnv meta meta_load runs page_sets image_runs extents update store"
 BATCH = 25
 KEPT_SEED = 1
+# so many of each set that every ending is among them
+KEPT_CALLS = 2000
 KEPT_SCENES = ("unmerged_record", "far_dirty", "left_in_old_page", "left_in_new_page", "cached_then_written", "moved_up")
 
 
@@ -112,7 +114,7 @@ def closes_an_import(entry):
 def kept():
     """The calls that stay in the repository: some scenes whole, the shortest call of each kind and ending, and the shortest openings
     that work out a checksum and that store one anew."""
-    pool = [e for which in "abcr" for e in Lists(KEPT_SEED, which).run(900)]
+    pool = [e for which in "abcr" for e in Lists(KEPT_SEED, which).run(KEPT_CALLS)]
     calls = [e for e in pool if e["tag"] in KEPT_SCENES and (e["par"], e["codec"].name) == (SETS["b"][0], "smallCodec")]
     by_length = sorted(pool, key=lambda e: len(theorems.statement(e)))
     shortest = {}

@@ -174,6 +174,10 @@ class Lists:
         mem[:len(cells)] = cells
         self.state, answer, mem = self.open(self.count, self.fill(mem, self.ceiling * p.S))
         self.lent, self.data, self.last_refused = Lent(mem, [], [], [], [], []), None, False
+        if "state" in made:
+            # no opening leads here either; the block in memory is another one
+            self.state = copy.deepcopy(self.state)
+            self.state.block.update(made["state"], import_expected_checksum=block["import_expected_checksum"])
         for i, call in enumerate(made["calls"] if answer == ("Done",) else []):
             self.frames = made["frames"] if isinstance(made["frames"], int) else made["frames"][i]
             if call:

@@ -58,12 +58,23 @@ def both_open(p):
     return dict(size=p.P, runs=[], frames=2, calls=calls)
 
 
-def import_closed_over_refresh(p):
-    """An opening closes an import of 0 bytes, which is complete, and leaves a refresh where it is."""
-    base = p.S + 2
-    fields = dict(flags=IMPORTING | REFRESHING | 2, checksum_refresh_offset=1, checksum_refresh_hash=9, import_base_offset=base, schema_version=4)
+def over_refresh(p):
+    """An import of 0 bytes, which is complete, and a refresh under way."""
+    fields = dict(flags=IMPORTING | REFRESHING | 2, checksum_refresh_offset=1, checksum_refresh_hash=9, import_base_offset=p.S + 2, schema_version=4)
     calls = [("refreshStep", 0), ("refreshStep", 1), ("importFinish",), ("refreshStep", 1), ("refreshStep", p.M)]
-    return dict(size=3, runs=[(0, 1)], frames=2, calls=calls, sum_of=0, **fields)
+    return fields, dict(size=3, runs=[(0, 1)], frames=2, calls=calls, sum_of=0)
+
+
+def import_closed_over_refresh(p):
+    """An opening closes the import and leaves the refresh where it is."""
+    fields, made = over_refresh(p)
+    return dict(made, **fields)
+
+
+def import_over_refresh(p):
+    """The import is finished; no opening leads here."""
+    fields, made = over_refresh(p)
+    return dict(made, state=fields)
 
 
 def moved_up(p):
@@ -92,4 +103,4 @@ def cut_first(p):
 
 
 SCENES = [unmerged_record, far_dirty, left_in_old_page, left_in_new_page, all_pages, cached_then_written, at_the_end_of_numbers, both_open,
-          import_closed_over_refresh, moved_up, past_all_numbers, growth_first, cut_first]
+          import_closed_over_refresh, import_over_refresh, moved_up, past_all_numbers, growth_first, cut_first]

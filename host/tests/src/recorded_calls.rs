@@ -9,7 +9,7 @@ use std::path::PathBuf;
 
 const LISTS: u64 = 60;
 const CALLS: u64 = 100;
-const SEED: u64 = 0x7265_636f;
+const SEED: u64 = 0x7265_6377;
 const ADDED: [u64; 2] = [33, 34];
 const ROOM: Room = Room {
     frames: 64,
