@@ -1,4 +1,6 @@
 // The store: an image in lent memory, an update of it, its commit in place. Every call takes any state and any slices.
+#![tactic(auto)]
+
 mod changing;
 
 pub use changing::{truncate, write_at};

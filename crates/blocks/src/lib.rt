@@ -1,4 +1,6 @@
 // What each call makes of the superblock. Page size, schema version (but for the end of an import) and unknown bits of the flags are carried on.
+#![tactic(auto)]
+
 ghost use Rattle.std.specs.Prelude.{◌≡◌, false, suc, ◌≤◌, min};
 ghost use Rattle.store.specs.Blocks.{bit, importing, stale, refreshing, marks, set_image, set_import, set_refresh, set_numbers, set_flags, after_commit, after_import_begin, after_import_chunk, after_import_cancel, after_import_finish, after_refresh, after_refresh_step};
 

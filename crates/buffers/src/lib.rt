@@ -1,4 +1,6 @@
 // The lent slices of an update: frames with their page numbers, clean frames, and the record.
+#![tactic(auto)]
+
 ghost use Rattle.std.specs.Prelude.{◌≡◌};
 ghost use Rattle.update.specs.Buffers.{short_buffers, dirty_page, wiped};
 ghost use Rattle.update.specs.Laid.{bufs, settle};

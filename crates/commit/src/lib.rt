@@ -1,4 +1,6 @@
 // The commit: plan, then the end that memory must reach, then the pages in place, then the superblock.
+#![tactic(auto)]
+
 ghost use Rattle.std.specs.Prelude.{◌≡◌, ◌+◌, ◌*◌, ◌≤◌, min, ◌∷◌, [], length, take};
 ghost use Rattle.config.specs.Pages.{count};
 ghost use Rattle.extents.specs.Plan.{below};

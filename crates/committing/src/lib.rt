@@ -1,4 +1,6 @@
 // The ends of an update.
+#![tactic(auto)]
+
 ghost use Rattle.std.specs.Prelude.{◌≡◌, true, [], ◌+◌, ◌*◌, ◌≤◌, length};
 ghost use Rattle.memory.specs.Bytes.{zeros};
 ghost use Rattle.update.specs.Buffers.{view, wiped};

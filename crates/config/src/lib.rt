@@ -1,4 +1,6 @@
 // Sizes and offsets of an image, counts of its pages, and the refusals.
+#![tactic(auto)]
+
 mod refusal;
 
 ghost use Rattle.std.specs.Prelude.{◌≡◌, ◌/◌, ◌%◌, ◌<◌};

@@ -1,4 +1,6 @@
 // Words and decimal numbers in a text, read and written at a place.
+#![tactic(auto)]
+
 mod read;
 mod write;
 

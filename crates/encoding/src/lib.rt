@@ -1,4 +1,6 @@
 // A store's state as bytes, and a call's answer as numbers: what passes between the store and a program in C.
+#![tactic(auto)]
+
 mod number_bytes;
 mod overlay_numbers;
 mod reply;

@@ -1,4 +1,6 @@
 // The plan of a commit: which zero runs the image has after it, or that they are too many.
+#![tactic(auto)]
+
 ghost use Rattle.std.specs.Prelude.{◌≡◌, true, ◌+◌, ◌*◌, ◌≤◌, ◌<◌, ◌∷◌, [], length, take};
 ghost use Rattle.meta.specs.Runs.{run, normalized};
 ghost use Rattle.runs.specs.Sets.{maximal};

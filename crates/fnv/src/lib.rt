@@ -1,4 +1,6 @@
 // 64-bit FNV-1a.
+#![tactic(auto)]
+
 ghost use Rattle.std.specs.Prelude.{◌≡◌, ◌+◌, ◌*◌, ◌%◌, ◌^◌, ◌<◌, ◌≤◌, length, take, drop};
 ghost use Rattle.fnv.specs.Fnv.{fold};
 ghost use Rattle.fnv.specs.Fnv.{step as taken};

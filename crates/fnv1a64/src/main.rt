@@ -1,4 +1,6 @@
 // Prints the 64-bit FNV-1a hash of each line of standard input, of which it reads 65,536 bytes at most.
+#![tactic(auto)]
+
 use libc::{STDIN_FILENO, STDOUT_FILENO};
 
 fn print_hash(line: &[u8]) {

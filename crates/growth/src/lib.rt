@@ -1,4 +1,6 @@
 // Growth of the file of an update.
+#![tactic(auto)]
+
 ghost use Rattle.std.specs.Prelude.{◌≡◌, ◌<◌, ◌-◌, ◌*◌, min};
 ghost use Rattle.update.specs.Laid.{bufs, laid, Fits, patched, finished, ended, grown};
 

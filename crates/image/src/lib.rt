@@ -1,4 +1,6 @@
 // The image in the lent memory: its bytes, its checksum, and its superblock stored anew.
+#![tactic(auto)]
+
 ghost use Rattle.std.specs.Prelude.{◌≡◌, ◌+◌, ◌-◌, ◌*◌, ◌≤◌, min, length, take};
 ghost use Rattle.memory.specs.Bytes.{zeros};
 ghost use Rattle.fnv.specs.Fnv.{fold};

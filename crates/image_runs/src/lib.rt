@@ -1,4 +1,6 @@
 // The runs of an image, in its bytes.
+#![tactic(auto)]
+
 ghost use Rattle.std.specs.Prelude.{◌≡◌, ◌+◌, ◌-◌, ◌*◌, ◌/◌, ◌≤◌, ◌<◌, min, length};
 ghost use Rattle.meta.specs.Runs.{run};
 ghost use Rattle.words.specs.Words.{word_at};

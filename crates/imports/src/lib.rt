@@ -1,4 +1,6 @@
 // Imports.
+#![tactic(auto)]
+
 ghost use Rattle.std.specs.Prelude.{◌≡◌, [], ◌+◌, ◌≤◌, length, take, drop};
 ghost use Rattle.fnv.specs.Fnv.{fnv1a64};
 ghost use Rattle.store.specs.Calls.{import_begin, import_chunk, import_finish, importCancel};

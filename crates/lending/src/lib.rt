@@ -1,4 +1,6 @@
 // What a call tests first of what it is lent, and the state that an update leaves when it ends.
+#![tactic(auto)]
+
 ghost use Rattle.std.specs.Prelude.{◌≡◌};
 ghost use Rattle.update.specs.Laid.{bufs};
 ghost use Rattle.store.specs.Codec.{real_codec};

@@ -1,5 +1,7 @@
 // Memory is one byte slice that the caller lends. The state says how many of its stable pages are in use; the whole
 // stable pages of its length are the ceiling.
+#![tactic(auto)]
+
 mod numbers;
 mod part;
 

@@ -43,8 +43,8 @@ fn copy_part(dst: &mut [u8], src: &[u8])
 {
     let n = src.len();
     let mut part = [0u8; 512];
-    bytes::copy(src, &mut part);
-    bytes::copy(&part[..n], dst);
+    part[..n].copy_from_slice(src);
+    dst[..n].copy_from_slice(&part[..n]);
 }
 
 // `src` over the first bytes of `dst`, part by part.
@@ -69,7 +69,7 @@ pub fn write(dst: &mut [u8], at: usize, src: &[u8])
         return;
     }
     let n = least(dst.len() - at, src.len());
-    bytes::copy(&src[..n], &mut dst[at..]);
+    dst[at..at + n].copy_from_slice(&src[..n]);
 }
 
 // The bytes of `src` from `at` on, with zeros past its end, become all of `dst`.

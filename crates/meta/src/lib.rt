@@ -1,4 +1,6 @@
 // The superblock of an image, and its checksum.
+#![tactic(auto)]
+
 mod superblock;
 
 pub use fnv::{FNV_OFFSET_BASIS, fnv1a64, fold_fnv1a64};

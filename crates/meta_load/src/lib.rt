@@ -1,4 +1,6 @@
 // The tests of a superblock's bytes at opening.
+#![tactic(auto)]
+
 ghost use Rattle.std.specs.Prelude.{◌≡◌, ℕ, ◌+◌, ◌*◌, ◌/◌, ◌≤◌, ◌<◌, ◌-◌, length, drop, take};
 ghost use Rattle.memory.specs.Bytes.{zeros, overwrite};
 ghost use Rattle.fnv.specs.Fnv.{fnv1a64 as hashed};

@@ -1,4 +1,6 @@
 // What comes first: an image is opened, an update of it begun.
+#![tactic(auto)]
+
 mod beginning;
 mod loading;
 

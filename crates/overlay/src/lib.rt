@@ -1,4 +1,6 @@
 // The overlay of an update on lent slices: reads, writes and truncations of its file.
+#![tactic(auto)]
+
 mod changing;
 
 pub use buffers::{are_short, dirty_page, wipe};

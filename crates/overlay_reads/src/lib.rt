@@ -1,4 +1,6 @@
 // Reads of the file of an update.
+#![tactic(auto)]
+
 ghost use Rattle.std.specs.Prelude.{◌≡◌, ◌+◌, ◌-◌, ◌*◌, ◌%◌, ◌≤◌, ◌<◌, length};
 ghost use Rattle.update.specs.Image.{image_in};
 ghost use Rattle.update.specs.Buffers.{settled};

@@ -1,4 +1,6 @@
 // Sets of zero pages, each kept in place as its maximal runs in a list of numbers that the caller lends.
+#![tactic(auto)]
+
 ghost use Rattle.std.specs.Prelude.{◌≡◌, true, ◌+◌, ◌*◌, ◌≤◌, ◌<◌, min, max, ◌∷◌, length, take};
 ghost use Rattle.meta.specs.Runs.{run, normalized};
 ghost use Rattle.runs.specs.Sets.{merge, maximal, without, piece};

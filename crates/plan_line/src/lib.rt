@@ -1,4 +1,6 @@
 // One line of zeroplan's text: its value, and the line feed that ends it; and the tests of the numbers that lines say.
+#![tactic(auto)]
+
 mod tests;
 
 ghost use Rattle.std.specs.Prelude.{◌≡◌, ◌≤◌, length};

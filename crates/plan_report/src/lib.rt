@@ -1,4 +1,6 @@
 // The answer of zeroplan as text.
+#![tactic(auto)]
+
 ghost use Rattle.std.specs.Prelude.{◌≡◌, ◌++◌, ◌+◌, ◌*◌, ◌/◌, ◌≤◌, length};
 ghost use Rattle.decimal.specs.Write.{written, write};
 ghost use Rattle.meta.specs.Runs.{run, runs_of};

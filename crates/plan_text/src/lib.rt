@@ -1,4 +1,6 @@
 // The text of the program zeroplan: what it reads, and what it writes.
+#![tactic(auto)]
+
 mod section;
 
 ghost use Rattle.std.specs.Prelude.{◌≡◌, [], ◌≤◌, length};

@@ -1,4 +1,6 @@
 // Pages in lent slices: frames of 16,384 bytes one behind the other with a list of page numbers, the clean cache, the record, and the image's pages.
+#![tactic(auto)]
+
 mod cache;
 mod image;
 mod pages;

@@ -1,4 +1,6 @@
 // The file as it is seen, of the update if one is open, else of the image: its size, its bytes, a dirty page.
+#![tactic(auto)]
+
 ghost use Rattle.std.specs.Prelude.{◌≡◌, length};
 ghost use Rattle.update.specs.Laid.{bufs};
 ghost use Rattle.store.specs.Codec.{real_codec};

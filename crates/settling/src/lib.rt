@@ -1,4 +1,6 @@
 // What a write or a truncation starts from and what becomes of it: "A direct call, accepted, is a begin, itself and a commit".
+#![tactic(auto)]
+
 ghost use Rattle.std.specs.Prelude.{◌≡◌, [], ◌+◌, ◌*◌, ◌≤◌, length};
 ghost use Rattle.update.specs.Laid.{bufs};
 ghost use Rattle.store.specs.Calls.{out, mode_of};

@@ -1,4 +1,6 @@
 // The image in one lent memory: its state by value, and what its calls answer.
+#![tactic(auto)]
+
 use config::{Refusal, StablePages};
 use meta::Superblock;
 use update::Overlay;

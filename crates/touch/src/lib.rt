@@ -1,4 +1,6 @@
 // One page of an update made dirty in the lent frames, and then zeroed or written in part.
+#![tactic(auto)]
+
 ghost use Rattle.std.specs.Prelude.{◌≡◌, true, ◌+◌, ◌*◌, ◌/◌, ◌%◌, ◌≤◌, min, length, take};
 ghost use Rattle.update.specs.Pages.{place_of};
 ghost use Rattle.update.specs.Update.{blank, copy};

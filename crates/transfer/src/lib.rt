@@ -1,4 +1,6 @@
 // Exports and checksums of an image, and how every call ends that is lent memory alone.
+#![tactic(auto)]
+
 pub mod step;
 mod sums;
 

@@ -1,4 +1,6 @@
 // Truncations of the file of an update.
+#![tactic(auto)]
+
 ghost use Rattle.std.specs.Prelude.{◌≡◌, ◌*◌, ◌≤◌, length};
 ghost use Rattle.update.specs.Buffers.{settled};
 ghost use Rattle.update.specs.Laid.{bufs, laid, Fits, dropped, below_count, grown_to, chopped, tailed, cut_to, resized};

@@ -1,4 +1,6 @@
 // An update of an image, by value: its numbers. Its pages, their numbers, its record and its clean pages lie in lent slices.
+#![tactic(auto)]
+
 mod limits;
 
 ghost use Rattle.std.specs.Prelude.{◌≡◌, ◌&&◌, eqb};

@@ -1,4 +1,6 @@
 // 64-bit numbers in bytes, the lowest byte first.
+#![tactic(auto)]
+
 ghost use Rattle.std.specs.Prelude.{◌≡◌, ◌+◌, ◌≤◌, ◌<◌, length};
 ghost use Rattle.memory.specs.Bytes.{overwrite};
 ghost use Rattle.words.specs.Words.{word, word_at};

@@ -1,4 +1,6 @@
 // Writes to the file of an update.
+#![tactic(auto)]
+
 ghost use Rattle.std.specs.Prelude.{◌≡◌, true, ◌+◌, ◌-◌, ◌/◌, ◌≤◌, ◌<◌, length};
 ghost use Rattle.update.specs.Pages.{span};
 ghost use Rattle.update.specs.Update.{whole_page, copy};

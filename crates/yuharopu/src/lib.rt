@@ -1,5 +1,7 @@
 // The C functions: a host "calls the library through C functions on numbers and byte slices". Each takes any argument; a slice passes as a
 // pointer and a number of elements.
+#![tactic(auto)]
+
 mod transfer_calls;
 mod update_calls;
 

@@ -1,4 +1,6 @@
 // Whether a page is zero, by runs in a lent slice of structs.
+#![tactic(auto)]
+
 ghost use Rattle.std.specs.Prelude.{◌≡◌};
 ghost use Rattle.runs.specs.Sets.{covers, within};
 ghost use Rattle.meta.specs.Runs.{run};

@@ -1,4 +1,6 @@
 // Reads what a commit is to do to the zero runs of an image, and prints the runs after it.
+#![tactic(auto)]
+
 ghost use Rattle.std.specs.Prelude.{◌≡◌, ◌≤◌, length};
 ghost use Rattle.decimal.specs.Write.{written, write};
 ghost use Rattle.zeroplan.specs.Reply.{reply};

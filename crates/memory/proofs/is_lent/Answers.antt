@@ -7,8 +7,7 @@ use lib.Dec.{leb}
 use borrow.Author.Tests.{leb-true, leb-false, le-leb, lt-leb}
 use borrow.Author.Rules.{rules}
 use Rattle.memory.specs.Laws.{split}
-use Rattle.memory.proofs.is_lent.Statement.{statement}
-use Rattle.memory.proofs.is_lent.Tie as tie
+use Rattle.memory.proofs.is_lent.Goals as goal
 
 -- n times S is at most m exactly when n is at most m / S
 whole : (n m k : ℕ) → k ≡ m / 65536 → leb n k ≡ leb (n * 65536) m
@@ -16,12 +15,5 @@ whole n m k e = split (leb n k)
     (λ t. t ∙ sym (le-leb (n * 65536) m (omega (arith, leb-true n k t))))
     (λ f. f ∙ sym (lt-leb (n * 65536) m (omega (arith, leb-false n k f))))
 
-ceiling-requires : tie.Need-ceiling-requires
-ceiling-requires c κs = search rules
-
-returns : tie.Need-returns
-returns c = let s = c.before.before.before.before in
-    whole s.args.count.0 (length s.args.mem.now) c.before.before.ceiling.result.0 c.before.before.ceiling.ensures
-
-pub is-lent-spec : {M : Type 1} → statement M
-is-lent-spec = tie.close (tie.spec ceiling-requires returns)
+pub returns : goal.returns
+returns c = whole c.args.count.0 (length c.args.mem.now) c.ceiling-most.result.0 c.ceiling-most.ensures
