@@ -22,7 +22,7 @@ use store::{Answer, State};
 use update::Overlay;
 
 // The count and the block after a commit, and the answer.
-#[derive(Drop)]
+#[derive(Clone, Copy)]
 pub struct Committed {
     pub count: StablePages,
     pub block: Superblock,
@@ -30,7 +30,7 @@ pub struct Committed {
 }
 
 // The end that memory must reach, or that it is above all numbers.
-#[derive(Drop)]
+#[derive(Clone, Copy)]
 enum Reach {
     At(u64),
     Over,

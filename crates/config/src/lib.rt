@@ -20,11 +20,11 @@ pub const SUPERBLOCK_OFFSET: u64 = 0;
 pub const DB_REGION_OFFSET: u64 = 65_536;
 
 // A count of pages of the database; of one page, how many are before it.
-#[derive(Drop)]
+#[derive(Clone, Copy)]
 pub struct Pages(pub u64);
 
 // A count of stable pages of memory, never taken for a count of pages.
-#[derive(Drop)]
+#[derive(Clone, Copy)]
 pub struct StablePages(pub u64);
 
 // `n` divided by `by`, rounded up.

@@ -5,7 +5,7 @@ ghost use Rattle.config.specs.Refusals.{these as of};
 
 use crate::StablePages;
 
-#[derive(Drop)]
+#[derive(Clone, Copy)]
 pub enum Refusal {
     ForeignStableMemoryImage,
     UnsupportedLayoutVersion(u64),
@@ -36,7 +36,7 @@ pub enum Refusal {
 }
 
 // What callers see of a refusal: its number, and its values, 0 where it has none.
-#[derive(Drop)]
+#[derive(Clone, Copy)]
 pub struct Numbers {
     pub number: u64,
     pub first: u64,

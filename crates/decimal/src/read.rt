@@ -2,14 +2,14 @@
 ghost use Rattle.std.specs.Prelude.{◌≡◌, ◌-◌, ◌≤◌, length};
 
 // A word was there, and the text goes on at a place; or it was not.
-#[derive(Drop)]
+#[derive(Clone, Copy)]
 pub enum Place {
     At(usize),
     Wrong,
 }
 
 // A number was there, and the text goes on at `next`; or none was, or one from 2^64 on.
-#[derive(Drop)]
+#[derive(Clone, Copy)]
 pub enum Numeral {
     Read { value: u64, next: usize },
     Wrong,

@@ -13,7 +13,7 @@ const ANSWER_NUMBERS: usize = 4;
 const BUFFER_TOO_SHORT: u64 = 35;
 
 // The number is 0 where a call was accepted; a value is 0 where there is none.
-#[derive(Drop)]
+#[derive(Clone, Copy)]
 struct Reply {
     number: u64,
     values: [u64; 4],

@@ -14,7 +14,7 @@ use config::Refusal;
 use meta::Superblock;
 
 // How many zero runs the image has, which stand in front of the work list; or 31.
-#[derive(Drop)]
+#[derive(Clone, Copy)]
 pub enum Planned {
     Runs(usize),
     Refused(Refusal),

@@ -12,7 +12,7 @@ pub use numbers::{copy_numbers, fill_numbers};
 pub use part::{copy, fill, fill_at, least, load, read, write};
 
 // The new count, or 32.
-#[derive(Drop)]
+#[derive(Clone, Copy)]
 pub enum Growth {
     Grown(StablePages),
     Refused(Refusal),

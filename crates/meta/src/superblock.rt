@@ -7,7 +7,7 @@ use fnv::fnv1a64;
 use words::{read_word, write_word};
 
 // The zero runs are not among the fields: they stay in the bytes, or in a list of numbers.
-#[derive(Drop)]
+#[derive(Clone, Copy)]
 pub struct Superblock {
     // "ICSQLITE", read as a little-endian number
     pub magic: u64,

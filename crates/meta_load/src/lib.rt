@@ -15,7 +15,7 @@ use meta::{Superblock, ZeroExtent};
 use words::read_word;
 
 // The block, or 1, 2 or 3.
-#[derive(Drop)]
+#[derive(Clone, Copy)]
 pub enum Loaded {
     Block(Superblock),
     Refused(Refusal),

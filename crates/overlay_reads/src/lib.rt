@@ -11,7 +11,7 @@ use config::{PAGE_LEN, Refusal};
 use update::{CleanCache, Image, Overlay};
 
 // "A read is full exactly when it is empty or ends at or before the size, else short"; only 35 can refuse it.
-#[derive(Drop)]
+#[derive(Clone, Copy)]
 pub enum Reading {
     Full,
     Short,
@@ -19,7 +19,7 @@ pub enum Reading {
 }
 
 // The overlay after a read, and the answer.
-#[derive(Drop)]
+#[derive(Clone, Copy)]
 pub struct ReadBack {
     pub overlay: Overlay,
     pub reading: Reading,

@@ -76,7 +76,7 @@ fn find(work: &[u64], count: usize, page: u64) -> usize
 }
 
 // A run, and the first run that it does not take up.
-#[derive(Drop)]
+#[derive(Clone, Copy)]
 struct Met {
     run: ZeroExtent,
     next: usize,

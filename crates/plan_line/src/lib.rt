@@ -12,7 +12,7 @@ use decimal::{Numeral, Place, number, skip};
 pub use tests::{are_distinct, is_ascending, none_is_empty};
 
 // A run was there, and the next line begins at `next`; or none was.
-#[derive(Drop)]
+#[derive(Clone, Copy)]
 pub enum Line {
     Run { start: u64, end: u64, next: usize },
     Wrong,

@@ -8,7 +8,7 @@ ghost use Rattle.meta.specs.Runs.{run, runs_of};
 use decimal::{put, put_number};
 
 // An accepted plan with its page count; 31; or a text that is none.
-#[derive(Drop)]
+#[derive(Clone, Copy)]
 pub enum Answer {
     Accepted(u64),
     Extents,

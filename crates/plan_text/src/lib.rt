@@ -13,7 +13,7 @@ use plan_line::read_field;
 pub use plan_report::{Answer, print};
 
 // Counts of the lines of each kind, and the two sizes; or the text says nothing.
-#[derive(Drop)]
+#[derive(Clone, Copy)]
 pub enum Parsed {
     Accepted {
         old_size: u64,

@@ -11,7 +11,7 @@ use decimal::{Numeral, Place, skip};
 use plan_line::{Line, are_distinct, is_ascending, none_is_empty, read_number, read_run};
 
 // How many lines there were, and where the text goes on; or a line was wrong, or one too many.
-#[derive(Drop)]
+#[derive(Clone, Copy)]
 pub enum Lines {
     Ended { count: usize, next: usize },
     Broken,

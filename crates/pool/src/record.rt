@@ -3,7 +3,7 @@ ghost use Rattle.std.specs.Prelude.{◌≡◌};
 ghost use Rattle.pool.specs.Pool.{pushes, pushed};
 
 // The entries in use after a push, or none was free.
-#[derive(Drop)]
+#[derive(Clone, Copy)]
 pub enum Pushed {
     Entries(usize),
     Full,

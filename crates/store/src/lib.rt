@@ -6,7 +6,7 @@ use meta::Superblock;
 use update::Overlay;
 
 // Between two calls all of it is here and in the lent slices. Without an update open the overlay's numbers are not used.
-#[derive(Drop)]
+#[derive(Clone, Copy)]
 pub struct State {
     pub count: StablePages,
     pub block: Superblock,
@@ -15,7 +15,7 @@ pub struct State {
 }
 
 // How far a refresh of the image's checksum came.
-#[derive(Drop)]
+#[derive(Clone, Copy)]
 pub struct ChecksumRefresh {
     pub complete: bool,
     pub checksum: u64,
@@ -23,7 +23,7 @@ pub struct ChecksumRefresh {
     pub db_size: u64,
 }
 
-#[derive(Drop)]
+#[derive(Clone, Copy)]
 pub enum Answer {
     Done,
     // of a begin and of the file's size
@@ -38,7 +38,7 @@ pub enum Answer {
 }
 
 // A call's answer, and the state to call with next.
-#[derive(Drop)]
+#[derive(Clone, Copy)]
 pub struct Step {
     pub state: State,
     pub answer: Answer,

@@ -22,7 +22,7 @@ pub fn frame_count(frames: &[u8], numbers: &[u64]) -> usize
 }
 
 // A page made dirty, or not, and its place among the dirty pages.
-#[derive(Drop)]
+#[derive(Clone, Copy)]
 pub struct Loaded {
     pub overlay: Overlay,
     pub at: usize,

@@ -9,7 +9,7 @@ use config::Refusal;
 pub use limits::admit;
 
 // The image below an update: its size, where it starts in memory, and how many runs it has.
-#[derive(Drop)]
+#[derive(Clone, Copy)]
 pub struct Image {
     pub size: u64,
     pub base: u64,
@@ -17,14 +17,14 @@ pub struct Image {
 }
 
 // "The cache's page numbers are an array inside its struct": the oldest inserted first. Numbers from `count` on are 0.
-#[derive(Drop)]
+#[derive(Clone, Copy)]
 pub struct CleanCache {
     pub pages: [u64; 8],
     pub count: usize,
 }
 
 // The budget of an update, if it is limited, and how far it was used.
-#[derive(Drop)]
+#[derive(Clone, Copy)]
 pub struct Budget {
     pub limited: bool,
     pub max_pages: u64,
@@ -35,7 +35,7 @@ pub struct Budget {
     pub peak_bytes: u64,
 }
 
-#[derive(Drop)]
+#[derive(Clone, Copy)]
 pub struct Overlay {
     pub base_size: u64,
     pub size: u64,
@@ -48,21 +48,21 @@ pub struct Overlay {
 }
 
 // What a change of an update answers.
-#[derive(Drop)]
+#[derive(Clone, Copy)]
 pub enum Verdict {
     Accepted,
     Refused(Refusal),
 }
 
 // The overlay after a change, and the answer.
-#[derive(Drop)]
+#[derive(Clone, Copy)]
 pub struct Changed {
     pub overlay: Overlay,
     pub verdict: Verdict,
 }
 
 // The budget after one more page was asked for, and the answer.
-#[derive(Drop)]
+#[derive(Clone, Copy)]
 pub struct Admission {
     pub budget: Budget,
     pub verdict: Verdict,

@@ -1,0 +1,15 @@
+-- `meta::Superblock::fresh` meets its contract.
+use mathlib.Core.Path.{refl, ap}
+use borrow.Author.Rules.{rules}
+use Rattle.memory.specs.Bytes.{zeros}
+use Rattle.meta.specs.Block.{fresh as freshBlock}
+use Rattle.meta.specs.Stored.{Outcome}
+use Rattle.meta.proofs.superblock.Superblock.fresh.Goals as goal
+
+pub seal-requires : goal.seal-requires
+unfolding zeros
+seal-requires c = refl
+
+pub returns : goal.returns
+unfolding freshBlock
+returns c = ap (λ (o : Outcome). o.block) c.seal.ensures

@@ -1,0 +1,17 @@
+use mathlib.Core.Path.{◌≡◌, refl, sym, ◌∙◌}
+use Prim.Native.Nat.{◌-◌, ◌≤◌, ◌<◌}
+use native.Mathlib.Omega.{arith}
+use lib.ListN.{length, take}
+use lib.Seq.{take_all}
+use borrow.Author.Rules.{rules}
+use Rattle.meta.specs.Block.{offset_is}
+use Rattle.memory.specs.Bytes.{overwrite}
+use Rattle.memory.specs.Laws.{overwrite_nil}
+use Rattle.words.specs.Words.{words, words_more}
+use Rattle.meta.proofs.superblock.write_fields.Given as goal
+
+abbrev pub invariant-loop-k : goal.invariant-loop-k
+invariant-loop-k l = (l.k ≤ 18) × (length l.out ≡ length l.initial.out) × (l.out ≡ overwrite 16 (words (take l.k l.fields)) l.initial.out)
+
+abbrev pub decreases-loop-k : goal.decreases-loop-k
+decreases-loop-k l = 18 - l.k
