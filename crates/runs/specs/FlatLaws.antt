@@ -528,4 +528,4 @@ module _ (w : List ℕ) (i n : ℕ) where
 
       pub tidy_step : x.start < x.end → x.end < y.start → normalized (upto w i n) ≡ normalized (upto w (i + 1) n)
       unfolding normalized
-      tidy_step g k = rw (upto_more w i n h, ← e, upto_more w (i + 1) n j, ← d, lt-ltb _ _ g, lt-ltb _ _ k)
+      tidy_step g k = rw (upto_more w i n h, ← e, upto_more w (i + 1) n j, lt-ltb _ _ g, lt-ltb _ _ (rw d at k))

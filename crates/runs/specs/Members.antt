@@ -75,6 +75,7 @@ insert_from m r (x ∷ l) h k f =
 
 -- the pages of a run and of runs from m on are at m or after
 pub in_from : (m p : ℕ) (l : List ZeroExtent) → From m l → In p l → m ≤ p
+in_from m p [] f x'' = elim x'' [ ]
 in_from m p (x ∷ l) f (inl h) = omega arith
 in_from m p (x ∷ l) f (inr h) = let g : suc x.end ≤ p = in_from (suc x.end) p l f.2 h in omega arith
 

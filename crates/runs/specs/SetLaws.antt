@@ -38,6 +38,7 @@ covers_in [] p e = absurd (true≢false (sym e))
 covers_in (x ∷ l) p e = split (within x p) (λ t. inl (within_has x p t)) (λ f. inr (covers_in l p (rw f at e)))
 
 pub in_covers : (l : List ZeroExtent) (p : ℕ) → In p l → covers l p ≡ true
+in_covers [] p x' = elim x' [ ]
 in_covers (x ∷ l) p (inl h) = rw (has_within x p h)
 in_covers (x ∷ l) p (inr h) = split (within x p) (λ t. rw t) (λ f. rw f (in_covers l p h))
 

@@ -1,0 +1,13 @@
+use Prim.Native.Nat.{◌-◌}
+use mathlib.Core.Path.{◌≡◌, sym, ◌∙◌}
+use lib.ListN.{length, take}
+use Rattle.runs.specs.Flat.{padded}
+use Rattle.runs.specs.FlatLaws.{clear_step, clear_last}
+use borrow.Author.Rules.{rules}
+use Rattle.runs.proofs.work.clear.Given as goal
+
+abbrev pub invariant-loop-k : goal.invariant-loop-k
+invariant-loop-k l = (length l.work ≡ length l.initial.work) × (padded (length l.initial.work) (take l.k l.work) ≡ padded (length l.initial.work) (take l.from l.initial.work))
+
+abbrev pub decreases-loop-k : goal.decreases-loop-k
+decreases-loop-k l = length l.initial.work - l.k
