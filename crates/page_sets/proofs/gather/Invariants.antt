@@ -1,0 +1,18 @@
+use Prim.Native.Nat.{ℕ, ◌-◌, ◌*◌, ◌≤◌, ◌<◌, min}
+use mathlib.Core.Path.{◌≡◌, sym, ◌∙◌}
+use mathlib.Core.Bool.{true}
+use mathlib.Core.List.{◌∷◌, ◌++◌}
+use native.Mathlib.Omega.{arith}
+use lib.ListN.{length}
+use Rattle.meta.specs.Runs.{normalized}
+use Rattle.runs.specs.Sets.{maximal}
+use Rattle.runs.specs.Flat.{runs_in, upto}
+use Rattle.runs.specs.FlatLaws.{upto_most, none_normalized, gather_start, gather_step, gather_last, add_within, held_normalized, held_runs}
+use borrow.Author.Rules.{rules}
+use Rattle.page_sets.proofs.gather.Given as goal
+
+abbrev pub invariant-loop-i : goal.invariant-loop-i
+invariant-loop-i l = (l.i ≤ l.n) × (l.have ≤ l.i) × (length l.work ≡ length l.initial.work) × (normalized (runs_in l.have l.work) ≡ true) × (maximal (upto l.runs l.i l.n ++ runs_in l.have l.work) ≡ maximal (runs_in l.count l.runs))
+
+abbrev pub decreases-loop-i : goal.decreases-loop-i
+decreases-loop-i l = l.n - l.i
