@@ -5,7 +5,7 @@ use Rattle.std.proofs.Math.Path.{ap, subst}
 use Rattle.std.proofs.Math.Nat.{zero-mul, zero-add}
 use mathlib.Core.List.{List, [], ◌∷◌, ◌++◌, append_assoc, append-nil}
 use Rattle.std.proofs.Math.ListN.{length, take}
-use Rattle.std.proofs.lemmas.Bool.{not_true, not_false}
+use Rattle.std.proofs.lemmas.Bool.{not-true, not-false}
 use Rattle.memory.specs.Bytes.{zeros, overwrite, resize}
 use Rattle.memory.specs.Laws.{split, length_part, length-overwrite}
 use Rattle.update.specs.Lists.{refill}
@@ -19,11 +19,11 @@ use Rattle.update.specs.ListLaws.{drop-overwrite, take_past, resize-take, zeros_
 
 retained_hit : (low : Bool) (p : ℕ) (g : Page) (d : List Page) → stays low p g.number ≡ true → retained low p (g ∷ d) ≡ g ∷ retained low p d
 retained_hit true p g d e = rw e
-retained_hit false p g d e = rw (not_true (eqb g.number p) e)
+retained_hit false p g d e = rw (not-true (eqb g.number p) e)
 
 retained_miss : (low : Bool) (p : ℕ) (g : Page) (d : List Page) → stays low p g.number ≡ false → retained low p (g ∷ d) ≡ retained low p d
 retained_miss true p g d e = rw e
-retained_miss false p g d e = rw (not_false (eqb g.number p) e)
+retained_miss false p g d e = rw (not-false (eqb g.number p) e)
 
 retained_nil : (low : Bool) (p : ℕ) → retained low p [] ≡ []
 retained_nil true p = refl

@@ -6,7 +6,7 @@ use Prim.Native.Nat.{ℕ, zero, suc, ◌+◌, ◌-◌, ◌*◌, ◌/◌, ◌%◌
 use native.Mathlib.Omega.{arith}
 use Rattle.std.proofs.Math.Bool.{Bool, true, not, or-true}
 use Rattle.std.proofs.Math.ListN.{length, get_or-eq_default}
-use borrow.Author.Tests.{ltb-true, ltb-false, eqb-true, eqb-false, ne_eqb, not_true}
+use borrow.Author.Tests.{ltb-true, ltb-false, eqb-true, eqb-false, ne_eqb, not-true}
 use Rattle.config.specs.Pages.{count, page_lo, page_hi, page_at, count_lt, lt_count}
 use Rattle.memory.specs.Bytes.{resize}
 use Rattle.memory.specs.Laws.{split, length-resize, resize_in}
@@ -270,7 +270,7 @@ module _ (P : ℕ) (pos : 0 < P) (b : ℕ → ℕ) (z0 : ℕ) where
     grown h s =
         let g : Grown P b v (patch P b v.size n (stretch P n v)) n = patched h s in
         split (partial P n && not (eqb (v.size / P) (n / P)))
-        (λ t. let ne : v.size / P ≡ n / P → ⊥ = eqb-false (v.size / P) (n / P) (not_true _ (both (partial P n) _ t).1) in
+        (λ t. let ne : v.size / P ≡ n / P → ⊥ = eqb-false (v.size / P) (n / P) (not-true _ (both (partial P n) _ t).1) in
         rw (grow, finish, t) record {
           size_is = touch_size true _ _ _ ∙ g.size_is;
           old = λ o k. touch_fix true _ (n / P) _ o (λ x. blank_lo P (n / P * P) n o x (before_last o h ne k)) ∙ g.old o k;

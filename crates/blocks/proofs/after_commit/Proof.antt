@@ -1,4 +1,4 @@
-use borrow.Author.Tests.{not_true, not_false}
+use borrow.Author.Tests.{not-true, not-false}
 use mathlib.Core.Path.{refl}
 use Rattle.store.specs.Blocks.{after_commit}
 use borrow.Author.Rules.{rules}
@@ -12,7 +12,7 @@ with-image-requires c κs = search rules
 -- src/lib.rt:108:9
 returns : tie.Need-returns
 unfolding after_commit
-returns c = rw (not_true c.before.before.args.update c.if1.true, c.before.with-image.ensures) refl
+returns c = rw (not-true c.before.before.args.update c.if1.true, c.before.with-image.ensures) refl
 
 -- src/lib.rt:110:9
 with-refresh-requires : tie.Need-with-refresh-requires
@@ -41,7 +41,7 @@ with-numbers-requires c κs = search rules
 -- src/lib.rt:103:1
 returns-2 : tie.Need-returns-2
 unfolding after_commit
-returns-2 c = rw (not_false c.before.before.before.before.before.before.before.before.args.update c.before.before.before.before.before.before.if1.false, c.with-numbers.ensures, c.before.next-number.ensures, c.before.before.with-flags.ensures, c.before.before.before.with-marks.ensures, c.before.before.before.before.is-importing.ensures, c.before.before.before.before.before.with-refresh.ensures, c.before.before.before.before.before.before.before.with-image.ensures) refl
+returns-2 c = rw (not-false c.before.before.before.before.before.before.before.before.args.update c.before.before.before.before.before.before.if1.false, c.with-numbers.ensures, c.before.next-number.ensures, c.before.before.with-flags.ensures, c.before.before.before.with-marks.ensures, c.before.before.before.before.is-importing.ensures, c.before.before.before.before.before.with-refresh.ensures, c.before.before.before.before.before.before.before.with-image.ensures) refl
 
 pub after-commit-spec : {M : Type 1} → statement M
 after-commit-spec =

@@ -3,7 +3,7 @@ use mathlib.Core.Path.{◌≡◌, refl, sym, ap, ◌∙◌}
 use Prim.Native.Nat.{◌*◌, ◌-◌, ◌/◌, ◌≤◌}
 use native.Mathlib.Omega.{arith}
 use lib.ListN.{length, drop}
-use borrow.Author.Tests.{not_true, not_false}
+use borrow.Author.Tests.{not-true, not-false}
 use borrow.Author.Rules.{rules}
 use Rattle.meta.specs.Runs.{runs_in, runs_in-end, normalized_nil, normalized_turn, normalized_stop, normalized as isNormalized}
 use Rattle.meta_load.proofs.normalized.Statement.{statement}
@@ -26,7 +26,7 @@ is-apart-requires c κs = search rules
 returns : tie.Need-returns invariant-loop decreases-loop
 returns c = let at = c.before.before.before in
     let b = at.before.before.args.bytes.now in
-    sym (sym at.loop.invariant.1 ∙ normalized_stop (length b / 16) at.loop.i b c.before.before.loop-test.true (sym c.before.is-apart.ensures ∙ not_true c.before.is-apart.result c.if1.true))
+    sym (sym at.loop.invariant.1 ∙ normalized_stop (length b / 16) at.loop.i b c.before.before.loop-test.true (sym c.before.is-apart.ensures ∙ not-true c.before.is-apart.result c.if1.true))
 
 add-i : tie.Need-overflow-add-i invariant-loop decreases-loop
 add-i c = search rules
@@ -37,7 +37,7 @@ loop-less c = search rules
 loop-again : tie.Need-loop-preserved invariant-loop decreases-loop
 loop-again c = let at = c.before.before.before in
     let b = at.before.before.args.bytes.now in
-    (search rules, sym (normalized_turn (length b / 16) at.loop.i b c.before.before.loop-test.true (sym c.before.is-apart.ensures ∙ not_false c.before.is-apart.result c.if1.false)) ∙ at.loop.invariant.1)
+    (search rules, sym (normalized_turn (length b / 16) at.loop.i b c.before.before.loop-test.true (sym c.before.is-apart.ensures ∙ not-false c.before.is-apart.result c.if1.false)) ∙ at.loop.invariant.1)
 
 returns-2 : tie.Need-returns-2 invariant-loop decreases-loop
 returns-2 c = let at = c.before in

@@ -4,7 +4,7 @@ use mathlib.Core.Logic.{⊎_elim}
 use mathlib.Core.Bool.{true}
 use native.Mathlib.Omega.{arith}
 use lib.ListN.{get_or, length, length-set}
-use borrow.Author.Tests.{not_true, not_false}
+use borrow.Author.Tests.{not-true, not-false}
 use Rattle.pool.specs.Pool.{stays}
 use Rattle.pool.specs.PoolLaws.{kept_gone, kept_moved, kept_there}
 use borrow.Author.Rules.{rules}
@@ -21,7 +21,7 @@ stays-requires : tie.Need-stays-requires
 stays-requires c κs = search rules
 
 returns : tie.Need-returns
-returns c = sym (kept_gone _ _ _ _ _ _ _ (sym c.before.stays.ensures ∙ not_true _ c.if1.true))
+returns c = sym (kept_gone _ _ _ _ _ _ _ (sym c.before.stays.ensures ∙ not-true _ c.if1.true))
 
 mul-numbers : tie.Need-overflow-mul-numbers
 mul-numbers c = search rules
@@ -50,7 +50,7 @@ same-length-2 c = ⊎_elim (λ w. search rules) (λ w. search rules) c.if2.branc
 returns-2 : tie.Need-returns-2
 returns-2 c =
     let a = c.before.before.before.before.before.before.args in
-    let e : stays a.below a.page (get_or a.numbers.now a.i 0) ≡ true = sym c.before.before.stays.ensures ∙ not_false _ c.before.if1.false in
+    let e : stays a.below a.page (get_or a.numbers.now a.i 0) ≡ true = sym c.before.before.stays.ensures ∙ not-false _ c.before.if1.false in
     ⊎_elim
     (λ w. cc (w.5, w.6, w.2.ensures, kept_moved 16384 a.below a.page a.numbers.now a.frames.now a.i a.to e))
     (λ w. cc (w.1, w.2, kept_there 16384 a.below a.page a.numbers.now a.frames.now a.i a.to e (omega arith) (omega arith)))

@@ -1,0 +1,18 @@
+use Prim.Native.Nat.{◌+◌, ◌-◌, ◌≤◌}
+use mathlib.Core.Path.{◌≡◌}
+use native.Mathlib.Omega.{arith}
+use lib.ListN.{length, take, drop}
+use Rattle.extents.specs.Plan.{below}
+use Rattle.extents.specs.PlanLaws.{tally_step, tally_last}
+use borrow.Author.Rules.{rules}
+use Rattle.extents.proofs.count_below.Goals as goal
+
+pub loop-i-preserved : goal.loop-i-preserved
+loop-i-preserved c =
+    let a = c.args in
+    omega (arith, tally_step a.end a.numbers.now a.dirty c.loop-i.i c.requires (omega arith), c.is_below-n.ensures.0)
+
+pub returns : goal.returns
+returns c =
+    let a = c.args in
+    omega (arith, tally_last a.end a.numbers.now a.dirty c.loop-i.i (omega arith))
