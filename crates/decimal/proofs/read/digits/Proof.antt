@@ -4,7 +4,7 @@ use mathlib.Core.Path.{◌≡◌, sym, ◌∙◌}
 use Prim.Native.Nat.{◌-◌}
 use native.Mathlib.Omega.{arith}
 use lib.ListN.{length}
-use borrow.Author.Tests.{not_true, not_false}
+use borrow.Author.Tests.{not-true, not-false}
 use Rattle.decimal.specs.Text.{from, digits}
 use Rattle.decimal.specs.Read.{digit_means, digits_on, digits_full, digits_other, digits_out}
 use Rattle.decimal.proofs.read.digits.Statement.{statement}
@@ -29,30 +29,30 @@ returns : tie.Need-returns invariant-loop decreases-loop
 returns c =
     let l = c.before.before.before.before in
     let a = l.before.before.args in
-    sym (digits_other a.text.now l.loop.next l.loop.value (omega arith) (sym c.before.is_digit.ensures ∙ not_true c.before.is_digit.result c.if1.true)) ∙ l.loop.invariant
+    sym (digits_other a.text.now l.loop.next l.loop.value (omega arith) (sym c.before.is_digit.ensures ∙ not-true c.before.is_digit.result c.if1.true)) ∙ l.loop.invariant
 
 wide-requires : tie.Need-wide-requires invariant-loop decreases-loop
 wide-requires c κs = search rules
 
 sub-digit : tie.Need-overflow-sub-digit invariant-loop decreases-loop
-sub-digit c = omega (arith, digit_means _ (sym c.before.before.is_digit.ensures ∙ not_false c.before.before.is_digit.result c.before.if1.false))
+sub-digit c = omega (arith, digit_means _ (sym c.before.before.is_digit.ensures ∙ not-false c.before.before.is_digit.result c.before.if1.false))
 
 sub-if2 : tie.Need-overflow-sub-if2 invariant-loop decreases-loop
-sub-if2 c = omega (arith, digit_means _ (sym c.before.before.is_digit.ensures ∙ not_false c.before.before.is_digit.result c.before.if1.false))
+sub-if2 c = omega (arith, digit_means _ (sym c.before.before.is_digit.ensures ∙ not-false c.before.before.is_digit.result c.before.if1.false))
 
 returns-2 : tie.Need-returns-2 invariant-loop decreases-loop
 returns-2 c =
     let l = c.before.before.before.before.before.before in
     let a = l.before.before.args in
-    let d = sym c.before.before.before.is_digit.ensures ∙ not_false c.before.before.before.is_digit.result c.before.before.if1.false in
+    let d = sym c.before.before.before.is_digit.ensures ∙ not-false c.before.before.before.is_digit.result c.before.before.if1.false in
     let k = digit_means _ d in
     sym (digits_full a.text.now l.loop.next l.loop.value (omega arith) d (omega arith)) ∙ l.loop.invariant
 
 mul-value : tie.Need-overflow-mul-value invariant-loop decreases-loop
-mul-value c = omega (arith, digit_means _ (sym c.before.before.before.is_digit.ensures ∙ not_false c.before.before.before.is_digit.result c.before.before.if1.false))
+mul-value c = omega (arith, digit_means _ (sym c.before.before.before.is_digit.ensures ∙ not-false c.before.before.before.is_digit.result c.before.before.if1.false))
 
 add-value : tie.Need-overflow-add-value invariant-loop decreases-loop
-add-value c = omega (arith, digit_means _ (sym c.before.before.before.is_digit.ensures ∙ not_false c.before.before.before.is_digit.result c.before.before.if1.false))
+add-value c = omega (arith, digit_means _ (sym c.before.before.before.is_digit.ensures ∙ not-false c.before.before.before.is_digit.result c.before.before.if1.false))
 
 add-next : tie.Need-overflow-add-next invariant-loop decreases-loop
 add-next c = search rules
@@ -64,7 +64,7 @@ loop-again : tie.Need-loop-preserved invariant-loop decreases-loop
 loop-again c =
     let l = c.before.before.before.before.before.before in
     let a = l.before.before.args in
-    let d = sym c.before.before.before.is_digit.ensures ∙ not_false c.before.before.before.is_digit.result c.before.before.if1.false in
+    let d = sym c.before.before.before.is_digit.ensures ∙ not-false c.before.before.before.is_digit.result c.before.before.if1.false in
     let k = digit_means _ d in
     digits_on a.text.now l.loop.next l.loop.value _ (omega arith) d (omega arith) (omega arith) ∙ l.loop.invariant
 

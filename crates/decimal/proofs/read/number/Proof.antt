@@ -2,7 +2,7 @@
 use mathlib.Core.Path.{sym, ap, ◌∙◌}
 use native.Mathlib.Omega.{arith}
 use Prim.Native.Nat.{ℕ, ◌-◌}
-use borrow.Author.Tests.{not_true, not_false}
+use borrow.Author.Tests.{not-true, not-false}
 use Rattle.decimal.specs.Read.{digit_means, number_out, number_other, number_alone, number_on}
 use borrow.Author.Rules.{rules}
 use Rattle.decimal.proofs.read.number.Statement.{statement}
@@ -18,7 +18,7 @@ is-digit-requires : tie.Need-is-digit-requires
 is-digit-requires c κs = search rules
 
 returns-2 : tie.Need-returns-2
-returns-2 c = sym (number_other _ _ c.before.before.before.if1.false (sym c.before.is_digit.ensures ∙ not_true c.before.is_digit.result c.if2.true))
+returns-2 c = sym (number_other _ _ c.before.before.before.if1.false (sym c.before.is_digit.ensures ∙ not-true c.before.is_digit.result c.if2.true))
 
 add-t9 : tie.Need-overflow-add-t9
 add-t9 c = search rules
@@ -33,7 +33,7 @@ wide-requires : tie.Need-wide-requires
 wide-requires c κs = search rules
 
 sub-digits : tie.Need-overflow-sub-digits
-sub-digits c = omega (arith, digit_means _ (sym c.before.before.before.is_digit.ensures ∙ not_false c.before.before.before.is_digit.result c.before.before.if2.false))
+sub-digits c = omega (arith, digit_means _ (sym c.before.before.before.is_digit.ensures ∙ not-false c.before.before.before.is_digit.result c.before.before.if2.false))
 
 digits-requires : tie.Need-digits-requires
 digits-requires c κs = search rules
@@ -41,7 +41,7 @@ digits-requires c κs = search rules
 returns-4 : tie.Need-returns-4
 returns-4 c =
     let s = c.before.before.before.before.before.before.before.before in
-    let d = sym c.before.before.before.before.is_digit.ensures ∙ not_false c.before.before.before.before.is_digit.result c.before.before.before.if2.false in
+    let d = sym c.before.before.before.before.is_digit.ensures ∙ not-false c.before.before.before.before.is_digit.result c.before.before.before.if2.false in
     c.digits.ensures ∙ sym (number_on s.args.text.now s.args.at _ (omega arith) d c.before.before.if3.false (ap (λ (x : ℕ). x - 48) c.before.wide.ensures))
 
 pub number-spec : {M : Type 1} → statement M

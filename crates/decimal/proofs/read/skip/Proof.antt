@@ -4,7 +4,7 @@ use mathlib.Core.Path.{◌≡◌, sym, ◌∙◌}
 use Prim.Native.Nat.{◌-◌, ◌≤◌}
 use native.Mathlib.Omega.{arith}
 use lib.ListN.{length, drop}
-use borrow.Author.Tests.{not_true, not_false}
+use borrow.Author.Tests.{not-true, not-false}
 use Rattle.decimal.specs.Text.{from, skip}
 use Rattle.decimal.specs.Read.{is_at_within, skip_step, skip_stop, skip_done}
 use Rattle.decimal.proofs.read.skip.Statement.{statement}
@@ -29,13 +29,13 @@ returns : tie.Need-returns invariant-loop decreases-loop
 returns c =
     let l = c.before.before.before.before in
     let a = l.before.before.before.args in
-    sym (skip_stop a.text.now l.loop.here a.word.now l.loop.i (omega arith) (sym c.before.is_at.ensures ∙ not_true c.before.is_at.result c.if1.true)) ∙ l.loop.invariant.1
+    sym (skip_stop a.text.now l.loop.here a.word.now l.loop.i (omega arith) (sym c.before.is_at.ensures ∙ not-true c.before.is_at.result c.if1.true)) ∙ l.loop.invariant.1
 
 add-here : tie.Need-overflow-add-here invariant-loop decreases-loop
 add-here c =
     let l = c.before.before.before.before in
     let a = l.before.before.before.args in
-    omega (arith, is_at_within _ a.text.now l.loop.here (sym c.before.is_at.ensures ∙ not_false c.before.is_at.result c.if1.false))
+    omega (arith, is_at_within _ a.text.now l.loop.here (sym c.before.is_at.ensures ∙ not-false c.before.is_at.result c.if1.false))
 
 add-i : tie.Need-overflow-add-i invariant-loop decreases-loop
 add-i c = search rules
@@ -47,7 +47,7 @@ loop-again : tie.Need-loop-preserved invariant-loop decreases-loop
 loop-again c =
     let l = c.before.before.before.before in
     let a = l.before.before.before.args in
-    (search rules, skip_step a.text.now l.loop.here a.word.now l.loop.i (omega arith) (sym c.before.is_at.ensures ∙ not_false c.before.is_at.result c.if1.false) ∙ l.loop.invariant.1)
+    (search rules, skip_step a.text.now l.loop.here a.word.now l.loop.i (omega arith) (sym c.before.is_at.ensures ∙ not-false c.before.is_at.result c.if1.false) ∙ l.loop.invariant.1)
 
 returns-2 : tie.Need-returns-2 invariant-loop decreases-loop
 returns-2 c =
