@@ -1,0 +1,23 @@
+-- `meta::checksum_of` meets its contract: the hash goes on over three parts.
+use mathlib.Core.Path.{◌≡◌, refl, ap, ◌∙◌}
+use mathlib.Core.List.{[], ◌∷◌}
+use Prim.Native.Nat.{ℕ}
+use native.Mathlib.Omega.{arith}
+use lib.ListN.{take, length-take}
+use borrow.Author.Rules.{rules}
+use Rattle.memory.specs.Bytes.{zeros}
+use Rattle.fnv.specs.Fnv.{fnv_is, fold, basis}
+use Rattle.meta.specs.Block.{offset_is}
+use Rattle.meta_load.specs.LoadLaws.{checksum_parts}
+use Rattle.meta_load.proofs.checksum_of.Goals as goal
+
+eight : 0 ∷ 0 ∷ 0 ∷ 0 ∷ 0 ∷ 0 ∷ 0 ∷ 0 ∷ [] ≡ zeros 8
+unfolding zeros
+eight = refl
+
+pub slice_bounds-fnv1a64-end : goal.slice_bounds-fnv1a64-end
+slice_bounds-fnv1a64-end c = simp length-take (omega (arith, c.field_offset-at.ensures ∙ offset_is 17))
+
+pub returns : goal.returns
+returns c = let one = c.fnv1a64-before.ensures ∙ fnv_is (take c.field_offset-at.result c.args.bytes.now) ∙ ap (λ (k : ℕ). fold basis (take k c.args.bytes.now)) c.field_offset-at.ensures in
+    c.fold_fnv1a64.ensures ∙ rw (c.fold_fnv1a64-field.ensures, one) (checksum_parts c.args.n c.args.bytes.now _ c.requires.0 c.requires.1 eight)

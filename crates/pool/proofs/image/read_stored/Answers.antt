@@ -1,0 +1,18 @@
+-- `pool::image::read_stored` meets its contract: of the memory up to the image's end, what lies behind the offset, then zeros.
+use mathlib.Core.Path.{◌∙◌}
+use native.Mathlib.Omega.{arith}
+use lib.ListN.{length, length-take}
+use borrow.Author.Rules.{rules}
+use Rattle.pool.specs.Stored.{stored_read}
+use Rattle.pool.proofs.image.read_stored.Goals as goal
+
+pub slice_bounds-read-end : goal.slice_bounds-read-end
+slice_bounds-read-end c =
+    let end = c.reach-end in
+    omega (arith, end.ensures, length-take end.result c.args.mem.now)
+
+pub returns : goal.returns
+returns c =
+    let a = c.args in
+    c.read.ensures
+    ∙ stored_read a.image a.mem.now a.offset (length a.dst.now) c.reach-end.result c.reach-from.result c.reach-end.ensures c.reach-from.ensures
