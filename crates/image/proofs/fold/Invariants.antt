@@ -1,0 +1,17 @@
+use mathlib.Core.Path.{◌≡◌, sym, ◌∙◌}
+use Prim.Native.Nat.{◌+◌, ◌-◌, ◌≤◌}
+use native.Mathlib.Omega.{arith}
+use mathlib.Core.List.{◌++◌}
+use lib.ListN.{length, take, drop, length-append, length-take, length-drop}
+use borrow.Author.Rules.{rules}
+use Rattle.fnv.specs.Fnv.{fold}
+use Rattle.update.specs.Lists.{tabulate_from}
+use Rattle.update.specs.Image.{image_in}
+use Rattle.image.specs.ImageReads.{fold_more, fold_last}
+use Rattle.image.proofs.fold.Given as goal
+
+abbrev pub invariant-loop-at : goal.invariant-loop-at
+invariant-loop-at l = (length l.page ≡ 16384) × (fold l.sum (tabulate_from l.at (l.end - l.at) (image_in 16384 l.image l.mem)) ≡ fold l.hash (tabulate_from l.from (l.end - l.from) (image_in 16384 l.image l.mem)))
+
+abbrev pub decreases-loop-at : goal.decreases-loop-at
+decreases-loop-at l = l.end - l.at
