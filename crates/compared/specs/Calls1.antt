@@ -20,7 +20,7 @@ use Rattle.update.specs.Buffers.{frame_count, entry_count, wiped, cached, short_
 use Rattle.store.specs.Codec.{stored}
 use Rattle.store.specs.Small.{small_codec, small_sum, small_decode, small_runs, small_load, small_fresh}
 use Rattle.store.specs.Blocks.{importing, stale, refreshing, marks, after_commit, after_import_begin, after_import_chunk, after_import_cancel, after_import_finish, after_refresh, after_refresh_step}
-use Rattle.store.specs.Calls.{begin, read, write, truncate, commit, rollback, fileSize, import_begin, import_chunk, import_finish, importCancel, export, checksum, refresh, refresh_step, Lent, Out, out, mode_of, short}
+use Rattle.store.specs.Calls.{begin, read, write, truncate, commit, rollback, file_size, import_begin, import_chunk, import_finish, import_cancel, export, checksum, refresh, refresh_step, Lent, Out, out, mode_of, short}
 use Rattle.store.specs.Plan.{store_plan}
 use Rattle.store.specs.Store.{dirty_in, no_overlay, image_bytes, unchanged, planned_runs, commit_over, restore, do_import_begin, do_import_chunk, do_import_finish, do_import_cancel, do_export, image_sum, do_checksum, do_refresh, refresh_from, do_refresh_step, store}
 use Rattle.store.specs.Opening.{Opened, outside, open_image, closing, open'}
@@ -172,7 +172,7 @@ unfolding count zeros overwrite resize growMemory requiredPages normalized withi
 c11 = (refl, (refl, (refl)))
 
 -- fileSize: accepted
-c12 : store 2 24 3 3 95 small_codec (state 1 (of_fields magic 8 2 (0 ∷ 0 ∷ 0 ∷ 0 ∷ 0 ∷ 0 ∷ 0 ∷ 0 ∷ 0 ∷ 0 ∷ 0 ∷ 0 ∷ 24 ∷ 0 ∷ 0 ∷ 8 ∷ 0 ∷ 53 ∷ [])) true (overlay 0 1 1 1 (zeros 3) 0 (budget false 0 0 0 0 0))) (lent (0 ∷ 0 ∷ 0 ∷ 0 ∷ 0 ∷ 0 ∷ 0 ∷ 0 ∷ 0 ∷ 0 ∷ 0 ∷ 0 ∷ 24 ∷ 0 ∷ 0 ∷ 8 ∷ 0 ∷ 53 ∷ zeros 78) (7 ∷ 0 ∷ []) (0 ∷ []) (1 ∷ 4 ∷ 4 ∷ 8 ∷ 8 ∷ 5 ∷ []) (0 ∷ 1 ∷ zeros 10) (zeros 12)) (fileSize) ≡ out (state 1 (of_fields magic 8 2 (0 ∷ 0 ∷ 0 ∷ 0 ∷ 0 ∷ 0 ∷ 0 ∷ 0 ∷ 0 ∷ 0 ∷ 0 ∷ 0 ∷ 24 ∷ 0 ∷ 0 ∷ 8 ∷ 0 ∷ 53 ∷ [])) true (overlay 0 1 1 1 (zeros 3) 0 (budget false 0 0 0 0 0))) (lent (0 ∷ 0 ∷ 0 ∷ 0 ∷ 0 ∷ 0 ∷ 0 ∷ 0 ∷ 0 ∷ 0 ∷ 0 ∷ 0 ∷ 24 ∷ 0 ∷ 0 ∷ 8 ∷ 0 ∷ 53 ∷ zeros 78) (7 ∷ 0 ∷ []) (0 ∷ []) (1 ∷ 4 ∷ 4 ∷ 8 ∷ 8 ∷ 5 ∷ []) (0 ∷ 1 ∷ zeros 10) (zeros 12)) (Size 1) ([])
+c12 : store 2 24 3 3 95 small_codec (state 1 (of_fields magic 8 2 (0 ∷ 0 ∷ 0 ∷ 0 ∷ 0 ∷ 0 ∷ 0 ∷ 0 ∷ 0 ∷ 0 ∷ 0 ∷ 0 ∷ 24 ∷ 0 ∷ 0 ∷ 8 ∷ 0 ∷ 53 ∷ [])) true (overlay 0 1 1 1 (zeros 3) 0 (budget false 0 0 0 0 0))) (lent (0 ∷ 0 ∷ 0 ∷ 0 ∷ 0 ∷ 0 ∷ 0 ∷ 0 ∷ 0 ∷ 0 ∷ 0 ∷ 0 ∷ 24 ∷ 0 ∷ 0 ∷ 8 ∷ 0 ∷ 53 ∷ zeros 78) (7 ∷ 0 ∷ []) (0 ∷ []) (1 ∷ 4 ∷ 4 ∷ 8 ∷ 8 ∷ 5 ∷ []) (0 ∷ 1 ∷ zeros 10) (zeros 12)) (file_size) ≡ out (state 1 (of_fields magic 8 2 (0 ∷ 0 ∷ 0 ∷ 0 ∷ 0 ∷ 0 ∷ 0 ∷ 0 ∷ 0 ∷ 0 ∷ 0 ∷ 0 ∷ 24 ∷ 0 ∷ 0 ∷ 8 ∷ 0 ∷ 53 ∷ [])) true (overlay 0 1 1 1 (zeros 3) 0 (budget false 0 0 0 0 0))) (lent (0 ∷ 0 ∷ 0 ∷ 0 ∷ 0 ∷ 0 ∷ 0 ∷ 0 ∷ 0 ∷ 0 ∷ 0 ∷ 0 ∷ 24 ∷ 0 ∷ 0 ∷ 8 ∷ 0 ∷ 53 ∷ zeros 78) (7 ∷ 0 ∷ []) (0 ∷ []) (1 ∷ 4 ∷ 4 ∷ 8 ∷ 8 ∷ 5 ∷ []) (0 ∷ 1 ∷ zeros 10) (zeros 12)) (Size 1) ([])
 unfolding count zeros overwrite resize growMemory requiredPages normalized within merge insert add around piece remove flatRuns additions add_one remain plan put refill tabulate add_number_if span grown_numbers image_byte image_page push_run raw over_byte budget_bytes raised touch blank copy stretch patch finish grow grow_to chop tail truncated whole_page over_write written fresh look_up sized passing marked try_touch try_patch try_finish try_grow try_grow_to try_tail try_chop try_truncate try_write frame_count entry_count wiped cached short_buffers view overlay_of put_back dirty_page stored small_codec small_sum small_decode small_runs small_load small_fresh importing stale refreshing marks after_commit after_import_begin after_import_chunk after_import_cancel after_import_finish after_refresh after_refresh_step short store_plan no_overlay image_bytes unchanged planned_runs commit_over restore do_import_begin do_import_chunk do_import_finish do_import_cancel do_export image_sum do_checksum do_refresh refresh_from do_refresh_step store outside open_image closing open'
 c12 = refl
 
@@ -195,10 +195,10 @@ c13 = (refl, (refl, (refl, (refl, (refl)))))
 -- importCancel: 35
 -- importCancel: accepted
 c14 :
-    (store 4 24 2 3 199 small_codec (state 1 (of_fields magic 8 2 (0 ∷ 0 ∷ 0 ∷ 0 ∷ 0 ∷ 0 ∷ 0 ∷ 0 ∷ 0 ∷ 0 ∷ 0 ∷ 0 ∷ 24 ∷ 0 ∷ 0 ∷ 8 ∷ 0 ∷ 53 ∷ [])) false (overlay 0 0 0 0 (0 ∷ 0 ∷ []) 0 (budget false 0 0 0 0 0))) (lent (0 ∷ 0 ∷ 0 ∷ 0 ∷ 0 ∷ 0 ∷ 0 ∷ 0 ∷ 0 ∷ 0 ∷ 0 ∷ 0 ∷ 24 ∷ 0 ∷ 0 ∷ 8 ∷ 0 ∷ 53 ∷ zeros 102) (8 ∷ 4 ∷ 2 ∷ 7 ∷ []) (0 ∷ []) (8 ∷ 1 ∷ 1 ∷ 2 ∷ 8 ∷ 2 ∷ 4 ∷ 8 ∷ []) (3 ∷ 5 ∷ 1 ∷ 5 ∷ 8 ∷ 6 ∷ []) (zeros 12)) (importCancel) ≡ out (state 1 (of_fields magic 8 2 (0 ∷ 0 ∷ 0 ∷ 0 ∷ 0 ∷ 0 ∷ 0 ∷ 0 ∷ 0 ∷ 0 ∷ 0 ∷ 0 ∷ 24 ∷ 0 ∷ 0 ∷ 8 ∷ 0 ∷ 53 ∷ [])) false (overlay 0 0 0 0 (0 ∷ 0 ∷ []) 0 (budget false 0 0 0 0 0))) (lent (0 ∷ 0 ∷ 0 ∷ 0 ∷ 0 ∷ 0 ∷ 0 ∷ 0 ∷ 0 ∷ 0 ∷ 0 ∷ 0 ∷ 24 ∷ 0 ∷ 0 ∷ 8 ∷ 0 ∷ 53 ∷ zeros 102) (8 ∷ 4 ∷ 2 ∷ 7 ∷ []) (0 ∷ []) (8 ∷ 1 ∷ 1 ∷ 2 ∷ 8 ∷ 2 ∷ 4 ∷ 8 ∷ []) (3 ∷ 5 ∷ 1 ∷ 5 ∷ 8 ∷ 6 ∷ []) (zeros 12)) (Refused (ImportNotStarted)) ([])) ×
-    ((store 4 24 2 3 199 small_codec (state 1 (of_fields magic 8 2 (0 ∷ 0 ∷ 0 ∷ 0 ∷ 0 ∷ 0 ∷ 0 ∷ 0 ∷ 0 ∷ 0 ∷ 0 ∷ 0 ∷ 24 ∷ 0 ∷ 0 ∷ 8 ∷ 0 ∷ 53 ∷ [])) true (overlay 0 199 1 1 (0 ∷ 0 ∷ []) 0 (budget true 4 16 0 1 4))) (lent (0 ∷ 0 ∷ 0 ∷ 0 ∷ 0 ∷ 0 ∷ 0 ∷ 0 ∷ 0 ∷ 0 ∷ 0 ∷ 0 ∷ 24 ∷ 0 ∷ 0 ∷ 8 ∷ 0 ∷ 53 ∷ zeros 54) (zeros 4) (49 ∷ []) (5 ∷ 2 ∷ 5 ∷ 8 ∷ 2 ∷ 5 ∷ 2 ∷ 6 ∷ []) (0 ∷ 50 ∷ []) (zeros 12)) (importCancel) ≡ out (state 1 (of_fields magic 8 2 (0 ∷ 0 ∷ 0 ∷ 0 ∷ 0 ∷ 0 ∷ 0 ∷ 0 ∷ 0 ∷ 0 ∷ 0 ∷ 0 ∷ 24 ∷ 0 ∷ 0 ∷ 8 ∷ 0 ∷ 53 ∷ [])) true (overlay 0 199 1 1 (0 ∷ 0 ∷ []) 0 (budget true 4 16 0 1 4))) (lent (0 ∷ 0 ∷ 0 ∷ 0 ∷ 0 ∷ 0 ∷ 0 ∷ 0 ∷ 0 ∷ 0 ∷ 0 ∷ 0 ∷ 24 ∷ 0 ∷ 0 ∷ 8 ∷ 0 ∷ 53 ∷ zeros 54) (zeros 4) (49 ∷ []) (5 ∷ 2 ∷ 5 ∷ 8 ∷ 2 ∷ 5 ∷ 2 ∷ 6 ∷ []) (0 ∷ 50 ∷ []) (zeros 12)) (Refused (UpdateInProgress)) ([])) ×
-    ((store 4 24 2 3 199 small_codec (state 2 (of_fields magic 8 2 (13 ∷ 0 ∷ 1 ∷ 3 ∷ 0 ∷ 66 ∷ 0 ∷ 1 ∷ 48 ∷ 0 ∷ 0 ∷ 0 ∷ 24 ∷ 0 ∷ 4 ∷ 8 ∷ 1 ∷ 24 ∷ [])) false (overlay 0 0 0 0 (0 ∷ 0 ∷ []) 0 (budget false 0 0 0 0 0))) (lent (13 ∷ 0 ∷ 1 ∷ 3 ∷ 0 ∷ 66 ∷ 0 ∷ 1 ∷ 48 ∷ 0 ∷ 0 ∷ 0 ∷ 24 ∷ 0 ∷ 4 ∷ 8 ∷ 1 ∷ 24 ∷ 0 ∷ 1 ∷ 0 ∷ 0 ∷ 0 ∷ 0 ∷ 0 ∷ 0 ∷ 0 ∷ 0 ∷ 1 ∷ 240 ∷ 7 ∷ 255 ∷ 255 ∷ 255 ∷ 255 ∷ 244 ∷ 255 ∷ zeros 9) (zeros 16) (zeros 4) (1 ∷ 7 ∷ 7 ∷ 6 ∷ 2 ∷ 1 ∷ 1 ∷ 6 ∷ []) (zeros 12) (zeros 24)) (importCancel) ≡ out (state 2 (of_fields magic 8 2 (13 ∷ 0 ∷ 1 ∷ 3 ∷ 0 ∷ 66 ∷ 0 ∷ 1 ∷ 48 ∷ 0 ∷ 0 ∷ 0 ∷ 24 ∷ 0 ∷ 4 ∷ 8 ∷ 1 ∷ 24 ∷ [])) false (overlay 0 0 0 0 (0 ∷ 0 ∷ []) 0 (budget false 0 0 0 0 0))) (lent (13 ∷ 0 ∷ 1 ∷ 3 ∷ 0 ∷ 66 ∷ 0 ∷ 1 ∷ 48 ∷ 0 ∷ 0 ∷ 0 ∷ 24 ∷ 0 ∷ 4 ∷ 8 ∷ 1 ∷ 24 ∷ 0 ∷ 1 ∷ 0 ∷ 0 ∷ 0 ∷ 0 ∷ 0 ∷ 0 ∷ 0 ∷ 0 ∷ 1 ∷ 240 ∷ 7 ∷ 255 ∷ 255 ∷ 255 ∷ 255 ∷ 244 ∷ 255 ∷ zeros 9) (zeros 16) (zeros 4) (1 ∷ 7 ∷ 7 ∷ 6 ∷ 2 ∷ 1 ∷ 1 ∷ 6 ∷ []) (zeros 12) (zeros 24)) (Refused (BufferTooShort)) ([])) ×
-    ((store 4 24 2 3 199 small_codec (state 1 (of_fields magic 8 2 (0 ∷ 0 ∷ 0 ∷ 1 ∷ 0 ∷ 200 ∷ 0 ∷ 7 ∷ 24 ∷ 0 ∷ 0 ∷ 0 ∷ 24 ∷ 0 ∷ 0 ∷ 8 ∷ 0 ∷ 16 ∷ [])) false (overlay 0 0 0 0 (0 ∷ 0 ∷ []) 0 (budget false 0 0 0 0 0))) (lent (0 ∷ 0 ∷ 0 ∷ 1 ∷ 0 ∷ 200 ∷ 0 ∷ 7 ∷ 24 ∷ 0 ∷ 0 ∷ 0 ∷ 24 ∷ 0 ∷ 0 ∷ 8 ∷ 0 ∷ 16 ∷ zeros 37) (zeros 15) (4 ∷ 4 ∷ []) (zeros 11) ([]) (zeros 20)) (importCancel) ≡ out (state 1 (of_fields magic 8 2 (0 ∷ 0 ∷ 0 ∷ 0 ∷ 0 ∷ 0 ∷ 0 ∷ 0 ∷ 0 ∷ 0 ∷ 0 ∷ 0 ∷ 24 ∷ 0 ∷ 0 ∷ 8 ∷ 0 ∷ 53 ∷ [])) false (overlay 0 0 0 0 (0 ∷ 0 ∷ []) 0 (budget false 0 0 0 0 0))) (lent (0 ∷ 0 ∷ 0 ∷ 0 ∷ 0 ∷ 0 ∷ 0 ∷ 0 ∷ 0 ∷ 0 ∷ 0 ∷ 0 ∷ 24 ∷ 0 ∷ 0 ∷ 8 ∷ 0 ∷ 53 ∷ zeros 37) (zeros 15) (4 ∷ 4 ∷ []) (zeros 11) ([]) (zeros 20)) (Done) ([])))))
+    (store 4 24 2 3 199 small_codec (state 1 (of_fields magic 8 2 (0 ∷ 0 ∷ 0 ∷ 0 ∷ 0 ∷ 0 ∷ 0 ∷ 0 ∷ 0 ∷ 0 ∷ 0 ∷ 0 ∷ 24 ∷ 0 ∷ 0 ∷ 8 ∷ 0 ∷ 53 ∷ [])) false (overlay 0 0 0 0 (0 ∷ 0 ∷ []) 0 (budget false 0 0 0 0 0))) (lent (0 ∷ 0 ∷ 0 ∷ 0 ∷ 0 ∷ 0 ∷ 0 ∷ 0 ∷ 0 ∷ 0 ∷ 0 ∷ 0 ∷ 24 ∷ 0 ∷ 0 ∷ 8 ∷ 0 ∷ 53 ∷ zeros 102) (8 ∷ 4 ∷ 2 ∷ 7 ∷ []) (0 ∷ []) (8 ∷ 1 ∷ 1 ∷ 2 ∷ 8 ∷ 2 ∷ 4 ∷ 8 ∷ []) (3 ∷ 5 ∷ 1 ∷ 5 ∷ 8 ∷ 6 ∷ []) (zeros 12)) (import_cancel) ≡ out (state 1 (of_fields magic 8 2 (0 ∷ 0 ∷ 0 ∷ 0 ∷ 0 ∷ 0 ∷ 0 ∷ 0 ∷ 0 ∷ 0 ∷ 0 ∷ 0 ∷ 24 ∷ 0 ∷ 0 ∷ 8 ∷ 0 ∷ 53 ∷ [])) false (overlay 0 0 0 0 (0 ∷ 0 ∷ []) 0 (budget false 0 0 0 0 0))) (lent (0 ∷ 0 ∷ 0 ∷ 0 ∷ 0 ∷ 0 ∷ 0 ∷ 0 ∷ 0 ∷ 0 ∷ 0 ∷ 0 ∷ 24 ∷ 0 ∷ 0 ∷ 8 ∷ 0 ∷ 53 ∷ zeros 102) (8 ∷ 4 ∷ 2 ∷ 7 ∷ []) (0 ∷ []) (8 ∷ 1 ∷ 1 ∷ 2 ∷ 8 ∷ 2 ∷ 4 ∷ 8 ∷ []) (3 ∷ 5 ∷ 1 ∷ 5 ∷ 8 ∷ 6 ∷ []) (zeros 12)) (Refused (ImportNotStarted)) ([])) ×
+    ((store 4 24 2 3 199 small_codec (state 1 (of_fields magic 8 2 (0 ∷ 0 ∷ 0 ∷ 0 ∷ 0 ∷ 0 ∷ 0 ∷ 0 ∷ 0 ∷ 0 ∷ 0 ∷ 0 ∷ 24 ∷ 0 ∷ 0 ∷ 8 ∷ 0 ∷ 53 ∷ [])) true (overlay 0 199 1 1 (0 ∷ 0 ∷ []) 0 (budget true 4 16 0 1 4))) (lent (0 ∷ 0 ∷ 0 ∷ 0 ∷ 0 ∷ 0 ∷ 0 ∷ 0 ∷ 0 ∷ 0 ∷ 0 ∷ 0 ∷ 24 ∷ 0 ∷ 0 ∷ 8 ∷ 0 ∷ 53 ∷ zeros 54) (zeros 4) (49 ∷ []) (5 ∷ 2 ∷ 5 ∷ 8 ∷ 2 ∷ 5 ∷ 2 ∷ 6 ∷ []) (0 ∷ 50 ∷ []) (zeros 12)) (import_cancel) ≡ out (state 1 (of_fields magic 8 2 (0 ∷ 0 ∷ 0 ∷ 0 ∷ 0 ∷ 0 ∷ 0 ∷ 0 ∷ 0 ∷ 0 ∷ 0 ∷ 0 ∷ 24 ∷ 0 ∷ 0 ∷ 8 ∷ 0 ∷ 53 ∷ [])) true (overlay 0 199 1 1 (0 ∷ 0 ∷ []) 0 (budget true 4 16 0 1 4))) (lent (0 ∷ 0 ∷ 0 ∷ 0 ∷ 0 ∷ 0 ∷ 0 ∷ 0 ∷ 0 ∷ 0 ∷ 0 ∷ 0 ∷ 24 ∷ 0 ∷ 0 ∷ 8 ∷ 0 ∷ 53 ∷ zeros 54) (zeros 4) (49 ∷ []) (5 ∷ 2 ∷ 5 ∷ 8 ∷ 2 ∷ 5 ∷ 2 ∷ 6 ∷ []) (0 ∷ 50 ∷ []) (zeros 12)) (Refused (UpdateInProgress)) ([])) ×
+    ((store 4 24 2 3 199 small_codec (state 2 (of_fields magic 8 2 (13 ∷ 0 ∷ 1 ∷ 3 ∷ 0 ∷ 66 ∷ 0 ∷ 1 ∷ 48 ∷ 0 ∷ 0 ∷ 0 ∷ 24 ∷ 0 ∷ 4 ∷ 8 ∷ 1 ∷ 24 ∷ [])) false (overlay 0 0 0 0 (0 ∷ 0 ∷ []) 0 (budget false 0 0 0 0 0))) (lent (13 ∷ 0 ∷ 1 ∷ 3 ∷ 0 ∷ 66 ∷ 0 ∷ 1 ∷ 48 ∷ 0 ∷ 0 ∷ 0 ∷ 24 ∷ 0 ∷ 4 ∷ 8 ∷ 1 ∷ 24 ∷ 0 ∷ 1 ∷ 0 ∷ 0 ∷ 0 ∷ 0 ∷ 0 ∷ 0 ∷ 0 ∷ 0 ∷ 1 ∷ 240 ∷ 7 ∷ 255 ∷ 255 ∷ 255 ∷ 255 ∷ 244 ∷ 255 ∷ zeros 9) (zeros 16) (zeros 4) (1 ∷ 7 ∷ 7 ∷ 6 ∷ 2 ∷ 1 ∷ 1 ∷ 6 ∷ []) (zeros 12) (zeros 24)) (import_cancel) ≡ out (state 2 (of_fields magic 8 2 (13 ∷ 0 ∷ 1 ∷ 3 ∷ 0 ∷ 66 ∷ 0 ∷ 1 ∷ 48 ∷ 0 ∷ 0 ∷ 0 ∷ 24 ∷ 0 ∷ 4 ∷ 8 ∷ 1 ∷ 24 ∷ [])) false (overlay 0 0 0 0 (0 ∷ 0 ∷ []) 0 (budget false 0 0 0 0 0))) (lent (13 ∷ 0 ∷ 1 ∷ 3 ∷ 0 ∷ 66 ∷ 0 ∷ 1 ∷ 48 ∷ 0 ∷ 0 ∷ 0 ∷ 24 ∷ 0 ∷ 4 ∷ 8 ∷ 1 ∷ 24 ∷ 0 ∷ 1 ∷ 0 ∷ 0 ∷ 0 ∷ 0 ∷ 0 ∷ 0 ∷ 0 ∷ 0 ∷ 1 ∷ 240 ∷ 7 ∷ 255 ∷ 255 ∷ 255 ∷ 255 ∷ 244 ∷ 255 ∷ zeros 9) (zeros 16) (zeros 4) (1 ∷ 7 ∷ 7 ∷ 6 ∷ 2 ∷ 1 ∷ 1 ∷ 6 ∷ []) (zeros 12) (zeros 24)) (Refused (BufferTooShort)) ([])) ×
+    ((store 4 24 2 3 199 small_codec (state 1 (of_fields magic 8 2 (0 ∷ 0 ∷ 0 ∷ 1 ∷ 0 ∷ 200 ∷ 0 ∷ 7 ∷ 24 ∷ 0 ∷ 0 ∷ 0 ∷ 24 ∷ 0 ∷ 0 ∷ 8 ∷ 0 ∷ 16 ∷ [])) false (overlay 0 0 0 0 (0 ∷ 0 ∷ []) 0 (budget false 0 0 0 0 0))) (lent (0 ∷ 0 ∷ 0 ∷ 1 ∷ 0 ∷ 200 ∷ 0 ∷ 7 ∷ 24 ∷ 0 ∷ 0 ∷ 0 ∷ 24 ∷ 0 ∷ 0 ∷ 8 ∷ 0 ∷ 16 ∷ zeros 37) (zeros 15) (4 ∷ 4 ∷ []) (zeros 11) ([]) (zeros 20)) (import_cancel) ≡ out (state 1 (of_fields magic 8 2 (0 ∷ 0 ∷ 0 ∷ 0 ∷ 0 ∷ 0 ∷ 0 ∷ 0 ∷ 0 ∷ 0 ∷ 0 ∷ 0 ∷ 24 ∷ 0 ∷ 0 ∷ 8 ∷ 0 ∷ 53 ∷ [])) false (overlay 0 0 0 0 (0 ∷ 0 ∷ []) 0 (budget false 0 0 0 0 0))) (lent (0 ∷ 0 ∷ 0 ∷ 0 ∷ 0 ∷ 0 ∷ 0 ∷ 0 ∷ 0 ∷ 0 ∷ 0 ∷ 0 ∷ 24 ∷ 0 ∷ 0 ∷ 8 ∷ 0 ∷ 53 ∷ zeros 37) (zeros 15) (4 ∷ 4 ∷ []) (zeros 11) ([]) (zeros 20)) (Done) ([])))))
 unfolding count zeros overwrite resize growMemory requiredPages normalized within merge insert add around piece remove flatRuns additions add_one remain plan put refill tabulate add_number_if span grown_numbers image_byte image_page push_run raw over_byte budget_bytes raised touch blank copy stretch patch finish grow grow_to chop tail truncated whole_page over_write written fresh look_up sized passing marked try_touch try_patch try_finish try_grow try_grow_to try_tail try_chop try_truncate try_write frame_count entry_count wiped cached short_buffers view overlay_of put_back dirty_page stored small_codec small_sum small_decode small_runs small_load small_fresh importing stale refreshing marks after_commit after_import_begin after_import_chunk after_import_cancel after_import_finish after_refresh after_refresh_step short store_plan no_overlay image_bytes unchanged planned_runs commit_over restore do_import_begin do_import_chunk do_import_finish do_import_cancel do_export image_sum do_checksum do_refresh refresh_from do_refresh_step store outside open_image closing open'
 c14 = (refl, (refl, (refl, (refl))))
 

@@ -25,7 +25,7 @@ use Rattle.store.specs.Codec.{stored}
 use Rattle.store.specs.Codec.{real_codec}
 use Rattle.store.specs.Small.{small_codec, small_sum, small_decode, small_runs, small_load, small_fresh}
 use Rattle.store.specs.Blocks.{importing, stale, refreshing, marks, after_commit, after_import_begin, after_import_chunk, after_import_cancel, after_import_finish, after_refresh, after_refresh_step}
-use Rattle.store.specs.Calls.{begin, read, write, truncate, commit, rollback, fileSize, import_begin, import_chunk, import_finish, importCancel, export, checksum, refresh, refresh_step, Lent, Out, out, mode_of, short}
+use Rattle.store.specs.Calls.{begin, read, write, truncate, commit, rollback, file_size, import_begin, import_chunk, import_finish, import_cancel, export, checksum, refresh, refresh_step, Lent, Out, out, mode_of, short}
 use Rattle.store.specs.Plan.{store_plan}
 use Rattle.store.specs.Store.{dirty_in, no_overlay, image_bytes, unchanged, planned_runs, commit_over, restore, do_import_begin, do_import_chunk, do_import_finish, do_import_cancel, do_export, image_sum, do_checksum, do_refresh, refresh_from, do_refresh_step, store}
 use Rattle.store.specs.Opening.{Opened, outside, open_image, closing, open'}

@@ -184,14 +184,14 @@ module _ (st an : List ℕ) (a : Answer) (r : Reply) (e : r ≡ reply_of a) wher
 
 -- ## Laws: what is shown of a state too
 
-pick_number : (b : Bool) (n : ℕ) (st an an' : List ℕ) → (pick b (showing n st an) (showing n st an')).number ≡ n
-pick_number true n st an an' = refl
-pick_number false n st an an' = refl
+pick_number_lem : (b : Bool) (n : ℕ) (st an an' : List ℕ) → (pick b (showing n st an) (showing n st an')).number ≡ n
+pick_number_lem true n st an an' = refl
+pick_number_lem false n st an an' = refl
 
 module _ (st an an' : List ℕ) (a : Answer) (n : ℕ) (told : Looked a an n an') (s : State) where
   told_number : n ≡ number_of a
   unfolding answer_shown
-  told_number = ap (λ (x : Shown). x.number) (told st) ∙ pick_number (eqb (number_of a) 35) (number_of a) st an (overwrite 0 (values a) an)
+  told_number = ap (λ (x : Shown). x.number) (told st) ∙ pick_number_lem (eqb (number_of a) 35) (number_of a) st an (overwrite 0 (values a) an)
 
   pub step_refused : n ≡ 35 → showing n st an' ≡ step_shown st an s a
   unfolding step_shown answer_shown

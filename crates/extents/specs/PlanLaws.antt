@@ -303,10 +303,10 @@ module _ (n r : ℕ) (w : List ℕ) where
       rw (told_kept 1024 r w h) (λ i. outcome (Runs (e i).count) (e i).work)
 
 -- and what a caller learns from them
-pub planned_runs : (n k : ℕ) (w : List ℕ) (a : Answer) → outcome (Runs k) w ≡ planned n a → a ≡ kept (runs_in k w)
+pub planned_runs_lem : (n k : ℕ) (w : List ℕ) (a : Answer) → outcome (Runs k) w ≡ planned n a → a ≡ kept (runs_in k w)
 unfolding planned
-planned_runs n k w too_many e = let z : ◌≡◌ {A = ℕ} 0 1 = ap (λ (o : Outcome). number o.answer) e in absurd (omega arith)
-planned_runs n k w (kept l) e =
+planned_runs_lem n k w too_many e = let z : ◌≡◌ {A = ℕ} 0 1 = ap (λ (o : Outcome). number o.answer) e in absurd (omega arith)
+planned_runs_lem n k w (kept l) e =
     let c : k ≡ length l = runs_same (ap (λ (o : Outcome). o.answer) e) in
     let f : w ≡ padded n (numbers_of l) = ap (λ (o : Outcome). o.work) e in
     ap kept (sym (rw (f, c) (laid_runs n l)))

@@ -4,7 +4,7 @@ use Rattle.std.specs.Prelude.{◌≡◌, ℕ, ◌≤◌, List, [], ◌∷◌, le
 use Rattle.std.proofs.Common.{arith}
 use Rattle.update.specs.Laid.{bufs}
 use Rattle.update.specs.Buffers.{Buffers}
-use Rattle.store.specs.Calls.{Call, begin, read, write, truncate, commit, rollback, fileSize, import_begin, import_chunk, import_finish, importCancel, export, checksum, refresh, refresh_step, Lent}
+use Rattle.store.specs.Calls.{Call, begin, read, write, truncate, commit, rollback, file_size, import_begin, import_chunk, import_finish, import_cancel, export, checksum, refresh, refresh_step, Lent}
 use Rattle.transfer.specs.OnMemory.{lent}
 use Rattle.encoding.specs.Called.{open_called, open_at}
 use Rattle.yuharopu.specs.StoreCalls.{is_set}
@@ -101,7 +101,7 @@ made_of (yuharopu_rollback_update x m w) =
 made_of (yuharopu_file_size x l) =
     let (state, (answer, none)) = x.passed in
     let (state', (answer', none)) = x.left in
-    made state.now answer.now l fileSize
+    made state.now answer.now l file_size
     x.gave state.now answer'.now l []
 made_of (yuharopu_begin_import x b w) =
     let (state, (mem, (total, (expected, (answer, none))))) = x.passed in
@@ -121,7 +121,7 @@ made_of (yuharopu_finish_import x b w) =
 made_of (yuharopu_cancel_import x b w) =
     let (state, (mem, (answer, none))) = x.passed in
     let (state', (mem', (answer', none))) = x.left in
-    made state.now answer.now (lent mem.now b w) importCancel
+    made state.now answer.now (lent mem.now b w) import_cancel
     x.gave state'.now answer'.now (lent mem'.now b w) []
 made_of (yuharopu_export_chunk x b w) =
     let (state, (mem, (offset, (dst, (answer, none))))) = x.passed in

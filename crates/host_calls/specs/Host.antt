@@ -8,7 +8,7 @@ use Rattle.words.specs.Words.{Bytes}
 use Rattle.update.specs.Buffers.{Buffers}
 use Rattle.store.specs.declared.State.{State}
 use Rattle.store.specs.Codec.{real_codec}
-use Rattle.store.specs.Calls.{Call, fileSize, Lent, Out, number, short, with_mem}
+use Rattle.store.specs.Calls.{Call, file_size, Lent, Out, number, short, with_mem}
 use Rattle.store.specs.Store.{store}
 use Rattle.store.specs.Blocks.{importing}
 use Rattle.store.specs.Opening.{Opened, open'}
@@ -29,7 +29,7 @@ use Rattle.host_calls.specs.Seen.{Seen, seen, untouched_short, untouched_35, owe
 
 -- a call whose answer has no room does what a question for the size does: nothing
 abbrev turn_of : Bool → Made → Turn'
-turn_of true e = record { lent = e.lent; call = fileSize }
+turn_of true e = record { lent = e.lent; call = file_size }
 turn_of false e = record { lent = e.lent; call = e.call }
 
 abbrev turns : List Made → List Turn'
@@ -56,7 +56,7 @@ room st an n b e = rw (eq-eqb (length st) 336 n) e
 
 -- one turn of the definition, by its cases
 module _ (s : State) (p : Plain) (m : List ℕ) (w l : Lent) (lends : Lends' s w l) (ts : List Turn') where
-  asked : Promise' s p m w (record { lent = l; call = fileSize } ∷ ts) → Begun p m → Promise' s p m (leaves' l w) ts
+  asked : Promise' s p m w (record { lent = l; call = file_size } ∷ ts) → Begun p m → Promise' s p m (leaves' l w) ts
   unfolding store short
   asked g b = subst (λ (x : List ℕ). Promise' s p x (leaves' l w) ts) (begun_same p m _ b) (g lends tt).2
 
@@ -77,8 +77,8 @@ module _ (st : List ℕ) (e : Made) where
   no_answer : ltb (length e.answer) 4 ≡ true → too_little st e ≡ true
   no_answer t = ap asks t
 
-  too_short : ltb (length e.answer) 4 ≡ false → short' (state_in st) e.lent e.call ≡ true → too_little st e ≡ true
-  too_short f t = ap asks f ∙ t
+  too_short_lem : ltb (length e.answer) 4 ≡ false → short' (state_in st) e.lent e.call ≡ true → too_little st e ≡ true
+  too_short_lem f t = ap asks f ∙ t
 
   long_enough : ltb (length e.answer) 4 ≡ false → short' (state_in st) e.lent e.call ≡ false → too_little st e ≡ false
   long_enough f k = ap asks f ∙ k
@@ -98,7 +98,7 @@ keeps st p m w n b (e ∷ es) h g = λ same lends.
     (λ f. let turn : Promise' (state_in st) p m w (record { lent = e.lent; call = e.call } ∷ turns es) = subst (λ (x : Bool). Promise' (state_in st) p m w (turn_of x e ∷ turns es)) f g in
     let fits : too_short e.state e.answer ≡ false = room e.state e.answer long false f in
     split (short' (state_in st) e.lent e.call)
-    (λ t. rw (too_short st e f t) (
+    (λ t. rw (too_short_lem st e f t) (
     let u : Untouched e = untouched_35 e h.0.0 fits (ap (λ (x : List ℕ). short' (state_in x) e.lent e.call) same ∙ t) in
     let x : Out = out_of (state_in st) e.lent e.call in
     let r : Nothing' (state_in st) e.lent e.call x × Promise' (state_in st) p m (leaves' x.lent w) (turns es) = rw t at (turn lends word) in
@@ -135,13 +135,13 @@ module _ (st an m : List ℕ) (n r : ℕ) (st' m' an' : List ℕ) (h : open_call
   unfolding open_at
   open_long f = rw f refl
 
-  pick_number : (b : Bool) (a : ℕ) (y : Shown) → y.number ≡ a → (pick b (showing a st an) y).number ≡ a
-  pick_number true a y e = refl
-  pick_number false a y e = e
+  pick_number_lem : (b : Bool) (a : ℕ) (y : Shown) → y.number ≡ a → (pick b (showing a st an) y).number ≡ a
+  pick_number_lem true a y e = refl
+  pick_number_lem false a y e = e
 
   shown_number : (step_shown st an image.state image.answer).number ≡ number image.answer
   unfolding step_shown
-  shown_number = pick_number (eqb (number image.answer) 35) (number image.answer) _ refl
+  shown_number = pick_number_lem (eqb (number image.answer) 35) (number image.answer) _ refl
 
   -- 35 for `state` or `answer` included
   refused_mem : (r ≡ 0 → ⊥) → m' ≡ m

@@ -2,7 +2,7 @@
 use Rattle.std.specs.Prelude.{◌≡◌, refl, ℕ, ◌+◌, ◌*◌, ◌≤◌, Bool, false, ◌||◌, List, [], ◌∷◌, ltb, leb, eqb, length, take, drop}
 use Rattle.memory.specs.Bytes.{overwrite, resize}
 use Rattle.store.specs.declared.State.{State}
-use Rattle.store.specs.Calls.{Call, begin, read, write, truncate, commit, rollback, fileSize, import_begin, import_chunk, import_finish, importCancel, export, checksum, refresh, refresh_step, Lent, lent_bytes, mode_of}
+use Rattle.store.specs.Calls.{Call, begin, read, write, truncate, commit, rollback, file_size, import_begin, import_chunk, import_finish, import_cancel, export, checksum, refresh, refresh_step, Lent, lent_bytes, mode_of}
 use Rattle.encoding.specs.StateBytes.{flag, state_in}
 use Rattle.encoding.specs.Called.{four}
 use Rattle.plain_file.specs.Plain.{File, Draft, Plain, closed, drafting, copied, draft_write, draft_truncate}
@@ -52,11 +52,11 @@ HostOwed (closed f) m e (write o bs) w = HostDirect f (draft_write 16384 o bs (c
 HostOwed (closed f) m e (truncate n) w = HostDirect f (draft_truncate 16384 n (copied f)) n e
 HostOwed (closed f) m e commit w = (e.returned ≡ 0) × (e.lent'.mem ≡ e.lent.mem)
 HostOwed (closed f) m e rollback w = (e.returned ≡ 0) × (e.lent'.mem ≡ e.lent.mem)
-HostOwed (closed f) m e fileSize w = Tells (length f.bytes) e
+HostOwed (closed f) m e file_size w = Tells (length f.bytes) e
 HostOwed (closed f) m e (import_begin a x) w = Unit {0}
 HostOwed (closed f) m e (import_chunk o bs) w = Unit {0}
 HostOwed (closed f) m e import_finish w = Unit {0}
-HostOwed (closed f) m e importCancel w = Unit {0}
+HostOwed (closed f) m e import_cancel w = Unit {0}
 HostOwed (closed f) m e (export o d) w = Unit {0}
 HostOwed (closed f) m e checksum w = Unit {0}
 HostOwed (closed f) m e refresh w = Unit {0}
@@ -69,11 +69,11 @@ HostOwed (drafting f d) m e commit w =
     Unspoiled d.spoiled (e.returned ≡ ground_of f d e.lent)
     × ((e.returned ≡ 0 → ⊥) → Kept m e.lent.mem e.lent'.mem w.mem (live e.state'))
 HostOwed (drafting f d) m e rollback w = (e.returned ≡ 0) × Kept m e.lent.mem e.lent'.mem w.mem (live e.state')
-HostOwed (drafting f d) m e fileSize w = Unspoiled d.spoiled (Tells (length d.bytes) e)
+HostOwed (drafting f d) m e file_size w = Unspoiled d.spoiled (Tells (length d.bytes) e)
 HostOwed (drafting f d) m e (import_begin a x) w = Unit {0}
 HostOwed (drafting f d) m e (import_chunk o bs) w = Unit {0}
 HostOwed (drafting f d) m e import_finish w = Unit {0}
-HostOwed (drafting f d) m e importCancel w = Unit {0}
+HostOwed (drafting f d) m e import_cancel w = Unit {0}
 HostOwed (drafting f d) m e (export o dst) w = Unit {0}
 HostOwed (drafting f d) m e checksum w = Unit {0}
 HostOwed (drafting f d) m e refresh w = Unit {0}

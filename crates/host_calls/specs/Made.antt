@@ -1,6 +1,6 @@
 -- A C call that was made: what a host passed, and what it had then; and what the contracts of the C functions say of it, as one equation.
 use Rattle.std.specs.Prelude.{◌≡◌, ℕ, Bool, true, false, cond, List, [], ◌∷◌}
-use Rattle.store.specs.Calls.{Call, begin, read, write, truncate, commit, rollback, fileSize, import_begin, import_chunk, import_finish, importCancel, export, checksum, refresh, refresh_step, Lent}
+use Rattle.store.specs.Calls.{Call, begin, read, write, truncate, commit, rollback, file_size, import_begin, import_chunk, import_finish, import_cancel, export, checksum, refresh, refresh_step, Lent}
 use Rattle.encoding.specs.Called.{Called, called, call, ask}
 use Rattle.plain_file.specs.Sizes.{Word'}
 
@@ -25,11 +25,11 @@ looks (write o bs) = false
 looks (truncate n) = false
 looks commit = false
 looks rollback = false
-looks fileSize = true
+looks file_size = true
 looks (import_begin t e) = false
 looks (import_chunk o bs) = false
 looks import_finish = false
-looks importCancel = false
+looks import_cancel = false
 looks (export o d) = true
 looks checksum = true
 looks refresh = false

@@ -12,7 +12,7 @@ use Rattle.store.specs.declared.Answer.{Answer}
 use Rattle.store.specs.Cases.{by_test}
 use Rattle.store.specs.OnlyShort.{only_short}
 use Rattle.store.specs.Codec.{real_codec}
-use Rattle.store.specs.Calls.{Call, begin, read, write, truncate, commit, rollback, fileSize, import_begin, import_chunk, import_finish, importCancel, export, checksum, refresh, refresh_step, Lent, Out, number, uses, lent_bytes, Mode, idle, update, mode_of}
+use Rattle.store.specs.Calls.{Call, begin, read, write, truncate, commit, rollback, file_size, import_begin, import_chunk, import_finish, import_cancel, export, checksum, refresh, refresh_step, Lent, Out, number, uses, lent_bytes, Mode, idle, update, mode_of}
 use Rattle.store.specs.Store.{do_export, do_checksum, alone, act, swept, refuse, store}
 use Rattle.encoding.specs.StateBytes.{state_bytes, state_in, bytes_long}
 use Rattle.encoding.specs.Called.{four, values, Shown, showing, pick, step_shown, answer_shown, Called, called_as, too_short, shown, told, refused_short, out_of, call, ask, call_short, ask_short}
@@ -40,11 +40,11 @@ module _ (s : State) (l : Lent) where
   looks_stay (truncate n) e = clash e refl
   looks_stay commit e = clash e refl
   looks_stay rollback e = clash e refl
-  looks_stay fileSize e = refl
+  looks_stay file_size e = refl
   looks_stay (import_begin t x) e = clash e refl
   looks_stay (import_chunk o bs) e = clash e refl
   looks_stay import_finish e = clash e refl
-  looks_stay importCancel e = clash e refl
+  looks_stay import_cancel e = clash e refl
   looks_stay (export o d) e = alone_stays (export o d) _ (mode_of s) refl
   looks_stay checksum e = alone_stays checksum _ (mode_of s) refl
   looks_stay refresh e = clash e refl
@@ -196,11 +196,11 @@ module _ (e : Made) (x : Out) (is : Seen e x) where
   owed_seen (closed f) m (truncate n) w h = direct_seen _ _ _ h
   owed_seen (closed f) m commit w h = (is.returned ∙ h.0, mem_is ∙ h.1)
   owed_seen (closed f) m rollback w h = (is.returned ∙ h.0, mem_is ∙ h.1)
-  owed_seen (closed f) m fileSize w h = tells _ _ h refl refl
+  owed_seen (closed f) m file_size w h = tells _ _ h refl refl
   owed_seen (closed f) m (import_begin a y) w h = tt
   owed_seen (closed f) m (import_chunk o bs) w h = tt
   owed_seen (closed f) m import_finish w h = tt
-  owed_seen (closed f) m importCancel w h = tt
+  owed_seen (closed f) m import_cancel w h = tt
   owed_seen (closed f) m (export o d) w h = tt
   owed_seen (closed f) m checksum w h = tt
   owed_seen (closed f) m refresh w h = tt
@@ -211,11 +211,11 @@ module _ (e : Made) (x : Out) (is : Seen e x) where
   owed_seen (drafting f d) m (truncate n) w h = tt
   owed_seen (drafting f d) m commit w h = (where_unspoiled d.spoiled (λ q. is.returned ∙ q) h.0, λ q. kept_seen m e.lent.mem w.mem (h.1 (λ z. q (is.returned ∙ z))))
   owed_seen (drafting f d) m rollback w h = (is.returned ∙ h.0, kept_seen m e.lent.mem w.mem h.1)
-  owed_seen (drafting f d) m fileSize w h = where_unspoiled d.spoiled (λ q. tells _ _ q refl refl) h
+  owed_seen (drafting f d) m file_size w h = where_unspoiled d.spoiled (λ q. tells _ _ q refl refl) h
   owed_seen (drafting f d) m (import_begin a y) w h = tt
   owed_seen (drafting f d) m (import_chunk o bs) w h = tt
   owed_seen (drafting f d) m import_finish w h = tt
-  owed_seen (drafting f d) m importCancel w h = tt
+  owed_seen (drafting f d) m import_cancel w h = tt
   owed_seen (drafting f d) m (export o dst) w h = tt
   owed_seen (drafting f d) m checksum w h = tt
   owed_seen (drafting f d) m refresh w h = tt

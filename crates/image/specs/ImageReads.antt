@@ -94,9 +94,9 @@ module _ (P : ℕ) (pos : 0 < P) (i : Image) (mem : List ℕ) where
 
 -- ## Zeros
 
-pub fold_zeros : (n h : ℕ) → fold_zeros n h ≡ fold h (zeros n)
+pub fold_zeros_lem : (n h : ℕ) → fold_zeros n h ≡ fold h (zeros n)
 unfolding zeros
-fold_zeros n h = fold_zeros-is n h
+fold_zeros_lem n h = fold_zeros-is n h
 
 -- ## Runs by number
 

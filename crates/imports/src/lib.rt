@@ -3,7 +3,7 @@
 
 ghost use Rattle.std.specs.Prelude.{◌≡◌, [], ◌+◌, ◌≤◌, length, take, drop};
 ghost use Rattle.fnv.specs.Fnv.{fnv1a64};
-ghost use Rattle.store.specs.Calls.{import_begin, import_chunk, import_finish, importCancel};
+ghost use Rattle.store.specs.Calls.{import_begin, import_chunk, import_finish, import_cancel};
 ghost use Rattle.transfer.specs.OnMemory.{OnMemory};
 ghost use Rattle.transfer.specs.Steps.{step_out, chunk_reach, chunk_to};
 
@@ -157,7 +157,7 @@ pub fn finish_import(s: State, mem: &mut [u8]) -> Step
 
 // 35, then "12, 11".
 pub fn cancel_import(s: State, mem: &mut [u8]) -> Step
-    ensures { OnMemory s mem.old importCancel result.state mem.new result.answer [] }
+    ensures { OnMemory s mem.old import_cancel result.state mem.new result.answer [] }
 {
     let count = s.count;
     if !memory::is_lent(mem, count) {

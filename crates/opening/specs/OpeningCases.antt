@@ -24,7 +24,7 @@ use Rattle.store.specs.Codec.{real_codec, stored}
 use Rattle.store.specs.Store.{ended}
 use Rattle.store.specs.MemoryLaws.{grow_cases}
 use Rattle.store.specs.Blocks.{importing}
-use Rattle.store.specs.Calls.{importCancel}
+use Rattle.store.specs.Calls.{import_cancel}
 use Rattle.store.specs.Opening.{opened_by, no_block, outside, not_opened, open_fresh, open_loaded, open_image, closing, closing_marked, closing_unmarked, open', open_is}
 use Rattle.transfer.specs.OnMemory.{OnMemory}
 use Rattle.transfer.specs.Steps.{step}
@@ -76,9 +76,9 @@ module _ (n : ℕ) (m : List ℕ) where
   open_short h = rw (lt-ltb (length m) (n * 65536) h)
 
   module _ (h : n * 65536 ≤ length m) where
-    pub open_fresh : n ≡ 0 → open_image 16384 65536 8 1024 most real_codec n m ≡ open_fresh 16384 65536 8 1024 most real_codec m (grow_to 65536 0 65536 m).mem (grow_to 65536 0 65536 m).growth
+    pub open_fresh_lem : n ≡ 0 → open_image 16384 65536 8 1024 most real_codec n m ≡ open_fresh 16384 65536 8 1024 most real_codec m (grow_to 65536 0 65536 m).mem (grow_to 65536 0 65536 m).growth
     unfolding open_image
-    open_fresh z = rw (le-ltb (length m) (n * 65536) h, eq-eqb n 0 z)
+    open_fresh_lem z = rw (le-ltb (length m) (n * 65536) h, eq-eqb n 0 z)
 
     module _ (nz : n ≡ 0 → ⊥) where
       open_loads : open_image 16384 65536 8 1024 most real_codec n m ≡ open_loaded 16384 65536 8 1024 most real_codec n m (load m)
@@ -113,7 +113,7 @@ module _ (first : Step) (m : List ℕ) where
   pub close_none : (t : Bool) → t ≡ importing first.state.block → not t ≡ true → opened first m ≡ closing 16384 65536 8 1024 most real_codec (opened first m)
   close_none t e h = sym (closing_unmarked 16384 65536 8 1024 most real_codec (opened first m) (not_true t _ e h))
 
-  pub close_done : (t : Bool) → t ≡ importing first.state.block → not t ≡ false → (r : Step) (m' : List ℕ) → OnMemory first.state m importCancel r.state m' r.answer []
+  pub close_done : (t : Bool) → t ≡ importing first.state.block → not t ≡ false → (r : Step) (m' : List ℕ) → OnMemory first.state m import_cancel r.state m' r.answer []
       → opened r m' ≡ closing 16384 65536 8 1024 most real_codec (opened first m)
   close_done t e h r m' is = ap opened_by (is (bufs [] [] [] []) []) ∙ sym (closing_marked 16384 65536 8 1024 most real_codec (opened first m) (not_false t _ e h))
 

@@ -12,7 +12,7 @@ use Rattle.store.specs.declared.State.{State}
 use Rattle.store.specs.declared.Answer.TheVariants.{Size}
 use Rattle.store.specs.Codec.{real_codec}
 use Rattle.store.specs.Opening.{open'}
-use Rattle.store.specs.Calls.{Call, begin, read, write, truncate, commit, rollback, fileSize, import_begin, import_chunk, import_finish, importCancel, export, checksum, refresh, refresh_step, Lent, Out, out}
+use Rattle.store.specs.Calls.{Call, begin, read, write, truncate, commit, rollback, file_size, import_begin, import_chunk, import_finish, import_cancel, export, checksum, refresh, refresh_step, Lent, Out, out}
 use Rattle.transfer.specs.OnMemory.{lent}
 use Rattle.lending.specs.Lending.{calls}
 use Rattle.opening.specs.Opened.{opened}
@@ -120,7 +120,7 @@ made_of (blob_rollback_update x m w) =
     (out x.gave.state (lent m (bufs frames'.now numbers'.now clean'.now recs'.now) w) x.gave.answer [])
 made_of (blob_file_size x l) =
     let (state, none) = x.passed in
-    made state l fileSize
+    made state l file_size
     (out state l (Size x.gave) [])
 made_of (blob_begin_import x b w) =
     let (state, (mem, (total, (expected, none)))) = x.passed in
@@ -140,7 +140,7 @@ made_of (blob_finish_import x b w) =
 made_of (blob_cancel_import x b w) =
     let (state, (mem, none)) = x.passed in
     let (state', (mem', none)) = x.left in
-    made state (lent mem.now b w) importCancel
+    made state (lent mem.now b w) import_cancel
     (out x.gave.state (lent mem'.now b w) x.gave.answer [])
 made_of (blob_export_chunk x b w) =
     let (state, (mem, (offset, (dst, none)))) = x.passed in

@@ -9,7 +9,7 @@ use Rattle.store.specs.declared.State.{State}
 use Rattle.store.specs.declared.Answer.{Answer}
 use Rattle.store.specs.declared.Answer.TheVariants.{Size, Read, Refused}
 use Rattle.store.specs.Codec.{Codec}
-use Rattle.store.specs.Calls.{Call, begin, read, write, truncate, commit, rollback, fileSize, import_begin, import_chunk, import_finish, importCancel, export, checksum, refresh, refresh_step, Lent, Out, number, lent_bytes, Mode, idle, update, mode_of, buffers_short, short, with_mem}
+use Rattle.store.specs.Calls.{Call, begin, read, write, truncate, commit, rollback, file_size, import_begin, import_chunk, import_finish, import_cancel, export, checksum, refresh, refresh_step, Lent, Out, number, lent_bytes, Mode, idle, update, mode_of, buffers_short, short, with_mem}
 use Rattle.store.specs.Opening.{open'}
 use Rattle.plain_file.specs.Plain.{File, Draft, Plain, closed, drafting, Told, copied, draft_write, draft_truncate, verdict_number, file_ground, file_of, plain_step}
 
@@ -57,11 +57,11 @@ module _ (P S C L M : ℕ) (k : Codec) where
   Owed (closed f) m (truncate n) l x w = Directly f (draft_truncate P n (copied f)) n l x
   Owed (closed f) m commit l x w = (number x.answer ≡ 0) × (x.lent.mem ≡ l.mem)
   Owed (closed f) m rollback l x w = (number x.answer ≡ 0) × (x.lent.mem ≡ l.mem)
-  Owed (closed f) m fileSize l x w = x.answer ≡ Size (length f.bytes)
+  Owed (closed f) m file_size l x w = x.answer ≡ Size (length f.bytes)
   Owed (closed f) m (import_begin a e) l x w = Unit {0}
   Owed (closed f) m (import_chunk o bs) l x w = Unit {0}
   Owed (closed f) m import_finish l x w = Unit {0}
-  Owed (closed f) m importCancel l x w = Unit {0}
+  Owed (closed f) m import_cancel l x w = Unit {0}
   Owed (closed f) m (export o d) l x w = Unit {0}
   Owed (closed f) m checksum l x w = Unit {0}
   Owed (closed f) m refresh l x w = Unit {0}
@@ -76,11 +76,11 @@ module _ (P S C L M : ℕ) (k : Codec) where
       Unspoiled d.spoiled (number x.answer ≡ verdict_number (file_ground P S L M f d (length l.mem)))
       × ((number x.answer ≡ 0 → ⊥) → Kept m l.mem x.lent.mem w.mem (x.state.count.0 * S))
   Owed (drafting f d) m rollback l x w = (number x.answer ≡ 0) × Kept m l.mem x.lent.mem w.mem (x.state.count.0 * S)
-  Owed (drafting f d) m fileSize l x w = Unspoiled d.spoiled (x.answer ≡ Size (length d.bytes))
+  Owed (drafting f d) m file_size l x w = Unspoiled d.spoiled (x.answer ≡ Size (length d.bytes))
   Owed (drafting f d) m (import_begin a e) l x w = Unit {0}
   Owed (drafting f d) m (import_chunk o bs) l x w = Unit {0}
   Owed (drafting f d) m import_finish l x w = Unit {0}
-  Owed (drafting f d) m importCancel l x w = Unit {0}
+  Owed (drafting f d) m import_cancel l x w = Unit {0}
   Owed (drafting f d) m (export o dst) l x w = Unit {0}
   Owed (drafting f d) m checksum l x w = Unit {0}
   Owed (drafting f d) m refresh l x w = Unit {0}
@@ -165,11 +165,11 @@ module _ (P S C L M : ℕ) (k : Codec) where
   Word (truncate n) = n ≤ M
   Word commit = Unit {0}
   Word rollback = Unit {0}
-  Word fileSize = Unit {0}
+  Word file_size = Unit {0}
   Word (import_begin a e) = Unit {0}
   Word (import_chunk o bs) = Unit {0}
   Word import_finish = Unit {0}
-  Word importCancel = Unit {0}
+  Word import_cancel = Unit {0}
   Word (export o d) = Unit {0}
   Word checksum = Unit {0}
   Word refresh = Unit {0}

@@ -36,7 +36,7 @@ use Rattle.store.specs.declared.Answer.{Answer}
 use Rattle.store.specs.declared.Answer.TheVariants.{Done, Size, Read, Checksum, Refused}
 use Rattle.store.specs.Codec.{Codec, sealed, stored}
 use Rattle.store.specs.Blocks.{importing, refreshing, after_import_begin, after_import_chunk, after_import_cancel, after_import_finish, after_refresh, after_refresh_step, Keeps, KeepsImport, ImportBegins, after_begin, begin_keeps, ChunkKeeps, after_chunk, Finishes, after_finish, refresh_keeps, refresh_imports, step_keeps, step_imports, seal_importing}
-use Rattle.store.specs.Calls.{Call, begin, read, write, truncate, commit, rollback, fileSize, import_begin, import_chunk, import_finish, importCancel, export, checksum, refresh, refresh_step, Lent, Out, out, number, uses, Mode, idle, update, mode_of, short, cleared, with_mem}
+use Rattle.store.specs.Calls.{Call, begin, read, write, truncate, commit, rollback, file_size, import_begin, import_chunk, import_finish, import_cancel, export, checksum, refresh, refresh_step, Lent, Out, out, number, uses, Mode, idle, update, mode_of, short, cleared, with_mem}
 use Rattle.store.specs.Store.{resting, working, onward, budget_of, image, image_bytes, image_sum, over, commit_over, direct, do_begin, restore, do_import_begin, place_chunk, do_import_chunk, do_import_finish, do_import_cancel, do_export, do_checksum, do_refresh, progress, refresh_from, do_refresh_step, act, swept}
 use Rattle.store.specs.Lawful.{Fits, Lawful, Good}
 use Rattle.store.specs.MemoryLaws.{Reaches, grow_cases, stored-length}
@@ -159,7 +159,7 @@ module _ (P S C L M : ℕ) (k : Codec) (pos : 0 < P) (spos : 0 < S) (wide : P �
           inv = same;
         }
 
-    size_turn : Turned P S C L M k (closed f) m fileSize l (act P S C L M k s l fileSize) w
+    size_turn : Turned P S C L M k (closed f) m file_size l (act P S C L M k s l file_size) w
     size_turn = record { owed = ap Size (sym (is-length c h w.mem f i.0 i.1)); inv = same }
 
     -- ## Direct calls
@@ -280,9 +280,9 @@ module _ (P S C L M : ℕ) (k : Codec) (pos : 0 < P) (spos : 0 < S) (wide : P �
         import_range = λ z. omega (arith, g.import_range (sym b.mark ∙ z), b.base, b.total);
       }
 
-      import_begin : (a b : ℕ) → Turned P S C L M k (closed f) m (import_begin a b) l (do_import_begin P S C L M k s l a b) w
+      import_begin_lem : (a b : ℕ) → Turned P S C L M k (closed f) m (import_begin a b) l (do_import_begin P S C L M k s l a b) w
       unfolding do_import_begin restore
-      import_begin a b =
+      import_begin_lem a b =
           let Q : Out → Type 0 = λ z. Turned P S C L M k (closed f) m (import_begin a b) l z w in
           by_test Q (importing h) _ _
           (λ x. record { owed = tt; inv = same })
@@ -290,10 +290,10 @@ module _ (P S C L M : ℕ) (k : Codec) (pos : 0 < P) (spos : 0 < S) (wide : P �
           (λ x. record { owed = tt; inv = same })
           (λ x. record { owed = tt; inv = set_inv (after_import_begin a b (c * S) h) Done (import_carries a b (ltb-false M (c * S + a) x)) }))
 
-      import_cancel : Turned P S C L M k (closed f) m importCancel l (do_import_cancel P S C L M k s l) w
+      import_cancel_lem : Turned P S C L M k (closed f) m import_cancel l (do_import_cancel P S C L M k s l) w
       unfolding do_import_cancel restore
-      import_cancel =
-          let Q : Out → Type 0 = λ z. Turned P S C L M k (closed f) m importCancel l z w in
+      import_cancel_lem =
+          let Q : Out → Type 0 = λ z. Turned P S C L M k (closed f) m import_cancel l z w in
           by_test Q (not (importing h)) _ _
           (λ x. record { owed = tt; inv = same })
           (λ n. record { owed = tt; inv = set_inv (after_import_cancel h) Done (cancel_carries S M c h) })
@@ -353,9 +353,9 @@ module _ (P S C L M : ℕ) (k : Codec) (pos : 0 < P) (spos : 0 < S) (wide : P �
             import_range = λ v. clash v no;
           }
 
-      import_finish : Turned P S C L M k (closed f) m import_finish l (do_import_finish P S C L M k s l) w
+      import_finish_lem : Turned P S C L M k (closed f) m import_finish l (do_import_finish P S C L M k s l) w
       unfolding do_import_finish restore
-      import_finish =
+      import_finish_lem =
           let Q : Out → Type 0 = λ z. Turned P S C L M k (closed f) m import_finish l z w in
           let x : ℕ = k.hash k.seed (take h.import_total_size (drop h.import_base_offset l.mem)) in
           let b : Superblock = after_import_finish P x h in
@@ -426,9 +426,9 @@ module _ (P S C L M : ℕ) (k : Codec) (pos : 0 < P) (spos : 0 < S) (wide : P �
               inv = inv_done P S C L M k pos spos laws x (closed (file_of P S L M k x.lent.mem)) [] w (restore_good P S C L M k laws r h (after_import_chunk (o + length bs) h) put chunk_good chunk_carries, refl);
             }
 
-      import_chunk : (o : ℕ) (bs : List ℕ) → Turned P S C L M k (closed f) m (import_chunk o bs) l (do_import_chunk P S C L M k s l o bs) w
+      import_chunk_lem : (o : ℕ) (bs : List ℕ) → Turned P S C L M k (closed f) m (import_chunk o bs) l (do_import_chunk P S C L M k s l o bs) w
       unfolding do_import_chunk
-      import_chunk o bs =
+      import_chunk_lem o bs =
           let Q : Out → Type 0 = λ z. Turned P S C L M k (closed f) m (import_chunk o bs) l z w in
           let e : ℕ = o + length bs in
           let n : ℕ = cond (eqb (length bs) 0) 0 (h.import_base_offset + e) in
@@ -457,11 +457,11 @@ module _ (P S C L M : ℕ) (k : Codec) (pos : 0 < P) (spos : 0 < S) (wide : P �
     idle_turn (truncate n) z e = truncate_turn n z e
     idle_turn commit z e = commit_turn
     idle_turn rollback z e = record { owed = (refl, refl); inv = same }
-    idle_turn fileSize z e = size_turn
-    idle_turn (import_begin a b) z e = import_begin (lent_good (import_begin a b) refl e) (lent_file (import_begin a b) refl e) a b
-    idle_turn (import_chunk o bs) z e = import_chunk (lent_good (import_chunk o bs) refl e) (lent_file (import_chunk o bs) refl e) o bs
-    idle_turn import_finish z e = import_finish (lent_good import_finish refl e) (lent_file import_finish refl e)
-    idle_turn importCancel z e = import_cancel (lent_good importCancel refl e) (lent_file importCancel refl e)
+    idle_turn file_size z e = size_turn
+    idle_turn (import_begin a b) z e = import_begin_lem (lent_good (import_begin a b) refl e) (lent_file (import_begin a b) refl e) a b
+    idle_turn (import_chunk o bs) z e = import_chunk_lem (lent_good (import_chunk o bs) refl e) (lent_file (import_chunk o bs) refl e) o bs
+    idle_turn import_finish z e = import_finish_lem (lent_good import_finish refl e) (lent_file import_finish refl e)
+    idle_turn import_cancel z e = import_cancel_lem (lent_good import_cancel refl e) (lent_file import_cancel refl e)
     idle_turn (export o dst) z e = record { owed = tt; inv = same }
     idle_turn checksum z e = record { owed = tt; inv = same }
     idle_turn refresh z e = refresh_turn (lent_good refresh refl e) (lent_file refresh refl e)

@@ -9,7 +9,7 @@ use Rattle.extents.specs.Plan.{Answer, too_many, kept, below, plan}
 use Rattle.update.specs.Lists.{put, tabulate, null}
 use Rattle.update.specs.Pages.{add_numbers, add_number_if}
 use Rattle.store.specs.Codec.{Codec}
-use Rattle.store.specs.Calls.{Call, begin, read, write, truncate, commit, rollback, fileSize, import_begin, import_chunk, import_finish, importCancel, export, checksum, refresh, refresh_step}
+use Rattle.store.specs.Calls.{Call, begin, read, write, truncate, commit, rollback, file_size, import_begin, import_chunk, import_finish, import_cancel, export, checksum, refresh, refresh_step}
 
 -- "The plain file has size, bytes, base and zero runs"; its size is the number of its bytes
 pub record File : Type 0 where
@@ -175,11 +175,11 @@ module _ (P S L M : ℕ) where
     plain_step p (truncate n) t = changed (eqb t.number 0) (draft_truncate P n) t.length p
     plain_step p commit t = commits p t
     plain_step p rollback t = ended p
-    plain_step p fileSize t = p
+    plain_step p file_size t = p
     plain_step p (import_begin a e) t = from_memory (eqb t.number 0) t.after p
     plain_step p (import_chunk o bs) t = from_memory (eqb t.number 0) t.after p
     plain_step p import_finish t = from_memory (eqb t.number 0) t.after p
-    plain_step p importCancel t = from_memory (eqb t.number 0) t.after p
+    plain_step p import_cancel t = from_memory (eqb t.number 0) t.after p
     plain_step p (export o d) t = p
     plain_step p checksum t = p
     plain_step p refresh t = p

@@ -34,7 +34,7 @@ use Rattle.store.specs.declared.Answer.{Answer}
 use Rattle.store.specs.declared.Answer.TheVariants.{Size, Read, Refused}
 use Rattle.store.specs.Codec.{Codec}
 use Rattle.store.specs.Blocks.{importing}
-use Rattle.store.specs.Calls.{Call, begin, read, write, truncate, commit, rollback, fileSize, import_begin, import_chunk, import_finish, importCancel, export, checksum, refresh, refresh_step, Lent, Out, number, uses, Mode, idle, update, mode_of, buffers_short, short, cleared, with_buffers}
+use Rattle.store.specs.Calls.{Call, begin, read, write, truncate, commit, rollback, file_size, import_begin, import_chunk, import_finish, import_cancel, export, checksum, refresh, refresh_step, Lent, Out, number, uses, Mode, idle, update, mode_of, buffers_short, short, cleared, with_buffers}
 use Rattle.store.specs.Store.{working, budget_of, image, full, answer_of, in_update, commit_over, do_begin, act, swept}
 use Rattle.store.specs.Lawful.{Lawful, Good}
 use Rattle.plain_file.specs.PlainLaws.{run_pushed, runs_pushed, pages_same, within_same, grown_same}
@@ -249,7 +249,7 @@ module _ (P S C L M : ℕ) (k : Codec) (pos : 0 < P) (spos : 0 < S) (laws : Lawf
     unfolding view
     view_size l = refl
 
-    size_turn : Turned P S C L M k (drafting f d) m fileSize l (act P S C L M k s l fileSize) w
+    size_turn : Turned P S C L M k (drafting f d) m file_size l (act P S C L M k s l file_size) w
     size_turn = record {
       owed = unspoiled d.spoiled (λ z. ap Size (view_size w.bufs ∙ (i.2.facts.draws z).like.size_is));
       inv = nothing;
@@ -358,11 +358,11 @@ module _ (P S C L M : ℕ) (k : Codec) (pos : 0 < P) (spos : 0 < S) (laws : Lawf
     update_turn (truncate n) z e = truncate_turn n z e
     update_turn commit z e = commit_turn e
     update_turn rollback z e = rollback_turn
-    update_turn fileSize z e = size_turn
+    update_turn file_size z e = size_turn
     update_turn (import_begin a b) z e = record { owed = tt; inv = nothing }
     update_turn (import_chunk o bs) z e = record { owed = tt; inv = nothing }
     update_turn import_finish z e = record { owed = tt; inv = nothing }
-    update_turn importCancel z e = record { owed = tt; inv = nothing }
+    update_turn import_cancel z e = record { owed = tt; inv = nothing }
     update_turn (export o dst) z e = record { owed = tt; inv = nothing }
     update_turn checksum z e = record { owed = tt; inv = nothing }
     update_turn refresh z e = record { owed = tt; inv = nothing }

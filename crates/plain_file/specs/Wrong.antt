@@ -26,7 +26,7 @@ use Rattle.store.specs.declared.Answer.TheVariants.{Done, Read, Refused}
 use Rattle.store.specs.Codec.{Codec, stored}
 use Rattle.store.specs.Small.{small_codec, small_sum, small_decode, small_runs, small_load, small_fresh, small_lawful}
 use Rattle.store.specs.Blocks.{importing, stale, refreshing, marks, after_commit}
-use Rattle.store.specs.Calls.{Call, begin, read, write, truncate, commit, rollback, fileSize, import_begin, import_chunk, import_finish, importCancel, export, checksum, refresh, refresh_step, Lent, Out, out, number, Mode, idle, update, mode_of, short, with_mem, with_buffers}
+use Rattle.store.specs.Calls.{Call, begin, read, write, truncate, commit, rollback, file_size, import_begin, import_chunk, import_finish, import_cancel, export, checksum, refresh, refresh_step, Lent, Out, out, number, Mode, idle, update, mode_of, short, with_mem, with_buffers}
 use Rattle.store.specs.Plan.{store_plan}
 use Rattle.store.specs.Store.{refuse, working, no_overlay, ended, image, image_bytes, over, unchanged, planned_runs, commit_over, in_update, store}
 use Rattle.store.specs.Opening.{outside, open_image, closing, open'}
@@ -136,11 +136,11 @@ kind_of (write o bs) = writing o bs
 kind_of (truncate n) = truncating n
 kind_of commit = committing
 kind_of rollback = other
-kind_of fileSize = other
+kind_of file_size = other
 kind_of (import_begin a e) = other
 kind_of (import_chunk o bs) = other
 kind_of import_finish = other
-kind_of importCancel = other
+kind_of import_cancel = other
 kind_of (export o d) = other
 kind_of checksum = other
 kind_of refresh = other

@@ -19,7 +19,7 @@ use Rattle.store.specs.declared.State.{State}
 use Rattle.store.specs.declared.Answer.{Answer}
 use Rattle.store.specs.declared.Answer.TheVariants.{Size, Read, Refused}
 use Rattle.store.specs.Codec.{real_codec}
-use Rattle.store.specs.Calls.{read, fileSize, Lent, Out, out, update, mode_if, mode_of, buffers_short, short}
+use Rattle.store.specs.Calls.{read, file_size, Lent, Out, out, update, mode_if, mode_of, buffers_short, short}
 use Rattle.store.specs.Store.{store, working, do_read, size_now, full}
 use Rattle.transfer.specs.OnMemory.{lent}
 use Rattle.transfer.specs.StoreCases.{most, bytes_are}
@@ -30,14 +30,14 @@ use Rattle.reading.specs.Views.{read_answer}
 -- ## The size
 
 module _ (s : State) (l : Lent) where
-  size_is : calls s l fileSize ≡ out s l (Size (size_now 16384 65536 8 1024 most real_codec s (mode_of s))) []
+  size_is : calls s l file_size ≡ out s l (Size (size_now 16384 65536 8 1024 most real_codec s (mode_of s))) []
   unfolding store short
   size_is = refl
 
-  pub size_updating : s.updating ≡ true → calls s l fileSize ≡ out s l (Size s.overlay.size) []
+  pub size_updating : s.updating ≡ true → calls s l file_size ≡ out s l (Size s.overlay.size) []
   size_updating e = size_is ∙ ap (λ (t : Bool). out s l (Size (size_now 16384 65536 8 1024 most real_codec s (mode_if t s.overlay))) []) e
 
-  pub size_idle : s.updating ≡ false → calls s l fileSize ≡ out s l (Size s.block.db_size) []
+  pub size_idle : s.updating ≡ false → calls s l file_size ≡ out s l (Size s.block.db_size) []
   size_idle e = size_is ∙ ap (λ (t : Bool). out s l (Size (size_now 16384 65536 8 1024 most real_codec s (mode_if t s.overlay))) []) e
 
 -- ## Reads

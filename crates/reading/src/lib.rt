@@ -5,7 +5,7 @@ ghost use Rattle.std.specs.Prelude.{◌≡◌, length};
 ghost use Rattle.update.specs.Laid.{bufs};
 ghost use Rattle.store.specs.Codec.{real_codec};
 ghost use Rattle.store.specs.declared.Answer.TheVariants.{Size};
-ghost use Rattle.store.specs.Calls.{fileSize, mode_of};
+ghost use Rattle.store.specs.Calls.{file_size, mode_of};
 ghost use Rattle.store.specs.Store.{full, dirty_in};
 ghost use Rattle.lending.specs.Lending.{Alone, Reads};
 ghost use Rattle.reading.specs.Views.{frames_short, read_answer};
@@ -17,7 +17,7 @@ use transfer::step;
 
 // Of the update if one is open, else of the image.
 pub fn file_size(s: State) -> u64
-    ensures { Alone s fileSize s (Size result) }
+    ensures { Alone s file_size s (Size result) }
 {
     if s.updating {
         return s.overlay.size;

@@ -33,7 +33,7 @@ use Rattle.store.specs.declared.State.{State}
 use Rattle.store.specs.declared.Answer.{Answer}
 use Rattle.store.specs.Codec.{Codec}
 use Rattle.store.specs.Blocks.{importing, refreshing}
-use Rattle.store.specs.Calls.{Call, begin, read, write, truncate, commit, rollback, fileSize, import_begin, import_chunk, import_finish, importCancel, export, checksum, refresh, refresh_step, Lent, Out, uses, Mode, idle, update, mode_of, buffers_short, short}
+use Rattle.store.specs.Calls.{Call, begin, read, write, truncate, commit, rollback, file_size, import_begin, import_chunk, import_finish, import_cancel, export, checksum, refresh, refresh_step, Lent, Out, uses, Mode, idle, update, mode_of, buffers_short, short}
 use Rattle.store.specs.MemoryLaws.{grow_cases}
 use Rattle.store.specs.Plan.{required}
 use Rattle.store.specs.Store.{budget_of, image, over, publish, settle, unchanged, planned_runs, commit_over, direct, change, do_begin, do_read, do_commit, do_rollback, restore, do_import_begin, place_chunk, do_import_chunk, do_import_finish, do_import_cancel, do_export, do_checksum, do_refresh, refresh_from, do_refresh_step, alone, act, swept, store}
@@ -265,11 +265,11 @@ module _ (P S C L M : ℕ) (k : Codec) (pos : 0 < P) where
     act_same (truncate n) e = truncate_same n (mode_of s) (lent_bufs (truncate n) refl e)
     act_same commit e = end_same (mode_of s)
     act_same rollback e = back_same (mode_of s)
-    act_same fileSize e = same l.bufs
+    act_same file_size e = same l.bufs
     act_same (import_begin t x) e = alone_same s l (import_begin t x) _ (mode_of s) (begin_same s l t x)
     act_same (import_chunk o bs) e = alone_same s l (import_chunk o bs) _ (mode_of s) (chunk_same s l o bs)
     act_same import_finish e = alone_same s l import_finish _ (mode_of s) (finish_same s l)
-    act_same importCancel e = alone_same s l importCancel _ (mode_of s) (cancel_same s l)
+    act_same import_cancel e = alone_same s l import_cancel _ (mode_of s) (cancel_same s l)
     act_same (export o d) e = alone_same s l (export o d) _ (mode_of s) (same l.bufs)
     act_same checksum e = alone_same s l checksum _ (mode_of s) (same l.bufs)
     act_same refresh e = alone_same s l refresh _ (mode_of s) (refresh_same s l)
@@ -419,11 +419,11 @@ module _ (P S C L M : ℕ) (k : Codec) (pos : 0 < P) where
       act_long (truncate n) = truncate_long n (mode_of s) now
       act_long commit = end_long (mode_of s) now
       act_long rollback = back_long (mode_of s) now
-      act_long fileSize = now
+      act_long file_size = now
       act_long (import_begin t x) = alone_long (import_begin t x) _ (mode_of s) (import_long t x)
       act_long (import_chunk o bs) = alone_long (import_chunk o bs) _ (mode_of s) (chunk_long o bs)
       act_long import_finish = alone_long import_finish _ (mode_of s) finish_long
-      act_long importCancel = alone_long importCancel _ (mode_of s) cancel_long
+      act_long import_cancel = alone_long import_cancel _ (mode_of s) cancel_long
       act_long (export o d) = alone_long (export o d) _ (mode_of s) now
       act_long checksum = alone_long checksum _ (mode_of s) now
       act_long refresh = alone_long refresh _ (mode_of s) refresh_long
@@ -543,15 +543,15 @@ module _ (P S C L M : ℕ) (k : Codec) (spos : 0 < S) (s : State) (l : Lent) (h 
   unfolding do_export do_checksum
   act_count (begin g p b) = begun_count g p b (importing s.block) (mode_of s)
   act_count (read o d) = read_count o (length d) (mode_of s)
-  act_count (write o bs) = change_count _ _ (mode_of s)
-  act_count (truncate n) = change_count _ _ (mode_of s)
+  act_count (write o bs) = change_count (try_write P M (frame_count P l.bufs) (entry_count l.bufs) (image P S C L M k s.block l.mem) o bs) (λ v. 0) (mode_of s)
+  act_count (truncate n) = change_count (try_truncate P M (frame_count P l.bufs) (entry_count l.bufs) (image P S C L M k s.block l.mem) n) (truncate_reach P M (frame_count P l.bufs) (entry_count l.bufs) (image P S C L M k s.block l.mem) n) (mode_of s)
   act_count commit = end_count (mode_of s)
   act_count rollback = back_count (mode_of s)
-  act_count fileSize = h
+  act_count file_size = h
   act_count (import_begin t x) = alone_count (import_begin t x) _ (mode_of s) (begin_count t x)
   act_count (import_chunk o bs) = alone_count (import_chunk o bs) _ (mode_of s) (chunk_count o bs)
   act_count import_finish = alone_count import_finish _ (mode_of s) finish_count
-  act_count importCancel = alone_count importCancel _ (mode_of s) cancel_count
+  act_count import_cancel = alone_count import_cancel _ (mode_of s) cancel_count
   act_count (export o d) = alone_count (export o d) _ (mode_of s) h
   act_count checksum = alone_count checksum _ (mode_of s) h
   act_count refresh = alone_count refresh _ (mode_of s) refresh_count

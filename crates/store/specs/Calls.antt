@@ -16,11 +16,11 @@ pub data Call : Type 0 where
   read : ℕ → List ℕ → Call
   write : ℕ → List ℕ → Call
   truncate : ℕ → Call
-  commit rollback fileSize : Call
+  commit rollback file_size : Call
   -- total size and expected checksum
   import_begin : ℕ → ℕ → Call
   import_chunk : ℕ → List ℕ → Call
-  import_finish importCancel : Call
+  import_finish import_cancel : Call
   export : ℕ → List ℕ → Call
   checksum refresh : Call
   refresh_step : ℕ → Call
@@ -70,11 +70,11 @@ uses (write o bs) = these true true true
 uses (truncate n) = these true true true
 uses commit = these true true true
 uses rollback = these false true false
-uses fileSize = these false false false
+uses file_size = these false false false
 uses (import_begin t e) = these true false false
 uses (import_chunk o bs) = these true false false
 uses import_finish = these true false false
-uses importCancel = these true false false
+uses import_cancel = these true false false
 uses (export o d) = these true false false
 uses checksum = these true false false
 uses refresh = these true false false
@@ -88,11 +88,11 @@ lent_bytes (write o bs) = []
 lent_bytes (truncate n) = []
 lent_bytes commit = []
 lent_bytes rollback = []
-lent_bytes fileSize = []
+lent_bytes file_size = []
 lent_bytes (import_begin t e) = []
 lent_bytes (import_chunk o bs) = []
 lent_bytes import_finish = []
-lent_bytes importCancel = []
+lent_bytes import_cancel = []
 lent_bytes (export o d) = d
 lent_bytes checksum = []
 lent_bytes refresh = []

@@ -19,12 +19,12 @@ use Rattle.store.specs.declared.State.{State}
 use Rattle.store.specs.declared.Answer.TheVariants.{Done, Refused}
 use Rattle.store.specs.Codec.{Codec, sealed, stored}
 use Rattle.store.specs.Blocks.{importing, after_import_cancel, after_cancel, seal_importing}
-use Rattle.store.specs.Calls.{importCancel, Lent, out, number, mode_if, short}
+use Rattle.store.specs.Calls.{import_cancel, Lent, out, number, mode_if, short}
 use Rattle.store.specs.Store.{refuse, runs_of, restore, do_import_cancel, alone, act, store}
 use Rattle.store.specs.Opening.{Opened, memory_alone, opened_by, not_opened, open_image, closing, closing_marked, closing_unmarked, open'}
 use Rattle.store.specs.Lawful.{Lawful, Good}
 use Rattle.store.specs.MemoryLaws.{stored_long}
-use Rattle.store.specs.OpeningLaws.{Opens, image_cases, image_count, image_opens}
+use Rattle.store.specs.OpeningLaws.{Opens, image_cases, image_count_lem, image_opens}
 use Rattle.store.specs.RestoreLaws.{cancel_carries, restore_good}
 
 -- no update is open, and memory holds the count
@@ -52,18 +52,18 @@ module _ (P S C L M : ℕ) (k : Codec) where
     pub answer : y.answer ≡ Done
 
   module _ (s : State) (l : Lent) (held : s.count.0 * S ≤ length l.mem) (idle : s.updating ≡ false) (mark : importing s.block ≡ true) where
-    cancel_acts : store P S C L M k s l importCancel ≡ do_import_cancel P S C L M k s l
+    cancel_acts : store P S C L M k s l import_cancel ≡ do_import_cancel P S C L M k s l
     unfolding store short
     cancel_acts =
-        ap (λ (t : Bool). cond (t || false) (refuse s l importCancel BufferTooShort) (act P S C L M k s l importCancel)) (le-ltb (length l.mem) (s.count.0 * S) held)
-        ∙ ap (λ (t : Bool). alone P S C L M k s l importCancel (do_import_cancel P S C L M k s l) (mode_if t s.overlay)) idle
+        ap (λ (t : Bool). cond (t || false) (refuse s l import_cancel BufferTooShort) (act P S C L M k s l import_cancel)) (le-ltb (length l.mem) (s.count.0 * S) held)
+        ∙ ap (λ (t : Bool). alone P S C L M k s l import_cancel (do_import_cancel P S C L M k s l) (mode_if t s.overlay)) idle
 
-    cancel_restores : store P S C L M k s l importCancel ≡ restore P S C L M k s l (after_import_cancel s.block) Done
+    cancel_restores : store P S C L M k s l import_cancel ≡ restore P S C L M k s l (after_import_cancel s.block) Done
     unfolding do_import_cancel
     cancel_restores = cancel_acts ∙ ap (λ (t : Bool). cond (not t) (out s l (Refused ImportNotStarted) []) (restore P S C L M k s l (after_import_cancel s.block) Done)) mark
 
   module _ (x : Opened) (a : Accepts S x) (mark : importing x.state.block ≡ true) where
-    closed_by : (l : Lent) → l.mem ≡ x.mem → store P S C L M k x.state l importCancel ≡ restore P S C L M k x.state l (block_after x) Done
+    closed_by : (l : Lent) → l.mem ≡ x.mem → store P S C L M k x.state l import_cancel ≡ restore P S C L M k x.state l (block_after x) Done
     closed_by l e = cancel_restores x.state l (omega (arith, a.held, ap length e)) a.idle mark
 
     closes : Closes x (closing P S C L M k x)
@@ -73,7 +73,7 @@ module _ (P S C L M : ℕ) (k : Codec) where
         (record { block = refl; mem = refl; count = refl; idle = a.idle; answer = refl })
 
     -- whatever else the caller of a cancel has
-    closes_alike : (b : Buffers) (w : List ℕ) → closing P S C L M k x ≡ opened_by (store P S C L M k x.state (record { mem = x.mem; bufs = b; work = w }) importCancel)
+    closes_alike : (b : Buffers) (w : List ℕ) → closing P S C L M k x ≡ opened_by (store P S C L M k x.state (record { mem = x.mem; bufs = b; work = w }) import_cancel)
     unfolding restore
     closes_alike b w =
         closing_marked P S C L M k x mark ∙ ap opened_by (closed_by (memory_alone x.mem) refl) ∙ sym (ap opened_by (closed_by (record { mem = x.mem; bufs = b; work = w }) refl))
@@ -110,11 +110,11 @@ module _ (P S C L M : ℕ) (k : Codec) where
 
     abbrev AsCall : Opened → Type 0
     AsCall x = importing x.state.block ≡ true → (b : Buffers) (w : List ℕ)
-        → closing P S C L M k x ≡ opened_by (store P S C L M k x.state (record { mem = x.mem; bufs = b; work = w }) importCancel)
+        → closing P S C L M k x ≡ opened_by (store P S C L M k x.state (record { mem = x.mem; bufs = b; work = w }) import_cancel)
 
     -- 02: "closes it as `cancel_import` would", whatever else the caller of that has
     pub open_marked : importing first.state.block ≡ true → (b : Buffers) (w : List ℕ)
-        → open' P S C L M k n m ≡ opened_by (store P S C L M k first.state (record { mem = first.mem; bufs = b; work = w }) importCancel)
+        → open' P S C L M k n m ≡ opened_by (store P S C L M k first.state (record { mem = first.mem; bufs = b; work = w }) import_cancel)
     unfolding open'
     open_marked = either AsCall (λ c r e b w. absurd (clash e (no_mark c m r))) (λ x a e b w. closes_alike x a e b w)
 
@@ -137,7 +137,7 @@ module _ (P S C L M : ℕ) (k : Codec) where
 
     -- 01: "Opening is given that count"
     pub count_given : (n ≡ 0 → ⊥) → (open' P S C L M k n m).state.count.0 ≡ n
-    count_given h = ap (λ (c : StablePages). c.0) open_count ∙ image_count P S C L M k spos n m h
+    count_given h = ap (λ (c : StablePages). c.0) open_count ∙ image_count_lem P S C L M k spos n m h
 
     -- 01: refused with "memory unchanged"
     pub refused_unchanged : (number (open' P S C L M k n m).answer ≡ 0 → ⊥) → (open' P S C L M k n m).mem ≡ m

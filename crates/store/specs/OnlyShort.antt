@@ -22,7 +22,7 @@ use Rattle.update.specs.Buffers.{frame_count, entry_count, view}
 use Rattle.store.specs.declared.State.{State}
 use Rattle.store.specs.Codec.{Codec}
 use Rattle.store.specs.Blocks.{importing, refreshing}
-use Rattle.store.specs.Calls.{Call, begin, read, write, truncate, commit, rollback, fileSize, import_begin, import_chunk, import_finish, importCancel, export, checksum, refresh, refresh_step, Lent, Out, number, uses, Mode, idle, update, mode_of, short}
+use Rattle.store.specs.Calls.{Call, begin, read, write, truncate, commit, rollback, file_size, import_begin, import_chunk, import_finish, import_cancel, export, checksum, refresh, refresh_step, Lent, Out, number, uses, Mode, idle, update, mode_of, short}
 use Rattle.store.specs.Plan.{required as reachOf}
 use Rattle.store.specs.Store.{budget_of, image, planned_runs, unchanged, settle, publish, commit_over, direct, change, in_update, restore, do_begin, do_read, do_commit, do_rollback, do_import_begin, place_chunk, do_import_chunk, do_import_finish, do_import_cancel, do_export, do_checksum, do_refresh, refresh_from, do_refresh_step, alone, act, swept, store}
 use Rattle.store.specs.Cases.{by_test}
@@ -166,11 +166,11 @@ module _ (P S C L M : ℕ) (k : Codec) (s : State) (l : Lent) where
   act_other (truncate n) = change_other (cuts n) (truncate_reach P M F R img n) (mode_of s) (λ v. truncate_by Other (λ e. omega arith) (λ e. omega arith) (λ e. omega arith) P M F R img v (λ t e. omega arith) n)
   act_other commit = end_other (mode_of s)
   act_other rollback = back_other (mode_of s)
-  act_other fileSize = λ e. omega (arith, e)
+  act_other file_size = λ e. omega (arith, e)
   act_other (import_begin t x) = alone_other (import_begin t x) _ (mode_of s) (import_other t x)
   act_other (import_chunk o bs) = alone_other (import_chunk o bs) _ (mode_of s) (chunk_other o bs)
   act_other import_finish = alone_other import_finish _ (mode_of s) import_finish_other
-  act_other importCancel = alone_other importCancel _ (mode_of s) cancel_other
+  act_other import_cancel = alone_other import_cancel _ (mode_of s) cancel_other
   act_other (export o d) = alone_other (export o d) _ (mode_of s) (λ e. omega (arith, e))
   act_other checksum = alone_other checksum _ (mode_of s) (λ e. omega (arith, e))
   act_other refresh = alone_other refresh _ (mode_of s) refresh_other

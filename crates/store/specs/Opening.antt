@@ -16,7 +16,7 @@ use Rattle.store.specs.declared.Answer.{Answer}
 use Rattle.store.specs.declared.Answer.TheVariants.{Done, Refused}
 use Rattle.store.specs.Codec.{Codec, sealed, stored}
 use Rattle.store.specs.Blocks.{importing}
-use Rattle.store.specs.Calls.{importCancel, Lent, Out}
+use Rattle.store.specs.Calls.{import_cancel, Lent, Out}
 use Rattle.store.specs.Store.{resting, no_overlay, store}
 
 pub record Opened : Type 0 where
@@ -68,7 +68,7 @@ module _ (P S C L M : ℕ) (k : Codec) where
 
   -- the cancel on what 01's opening left
   abbrev pub cancelled : Opened → Opened
-  cancelled x = opened_by (store P S C L M k x.state (memory_alone x.mem) importCancel)
+  cancelled x = opened_by (store P S C L M k x.state (memory_alone x.mem) import_cancel)
 
   -- 02, W-202: "Opening an image with the importing mark, once accepted by 01's checks, closes it as `cancel_import` would and stores the superblock. Images
   -- without the mark open as before." A refused opening answers `no_block`, which has no mark

@@ -77,8 +77,8 @@ module _ (P S C L M : ℕ) (k : Codec) (spos : 0 < S) (n : ℕ) (m : List ℕ) w
   pub image_mem : (n ≡ 0 → ⊥) → (open_image P S C L M k n m).mem ≡ m
   image_mem some = image_cases (λ x. x.mem ≡ m) (λ c e r. refl) (λ z r g q. absurd (some z)) (λ h held b e f. refl)
 
-  pub image_count : (n ≡ 0 → ⊥) → (open_image P S C L M k n m).state.count.0 ≡ n
-  image_count some = image_cases (λ x. x.state.count.0 ≡ n) (λ c e r. e) (λ z r g q. absurd (some z)) (λ h held b e f. refl)
+  pub image_count_lem : (n ≡ 0 → ⊥) → (open_image P S C L M k n m).state.count.0 ≡ n
+  image_count_lem some = image_cases (λ x. x.state.count.0 ≡ n) (λ c e r. e) (λ z r g q. absurd (some z)) (λ h held b e f. refl)
 
 module _ (P S C L M : ℕ) (k : Codec) (spos : 0 < S) (laws : Lawful S L M k) where
   pub record Opens (x : Opened) : Type 0 where

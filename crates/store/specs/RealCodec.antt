@@ -55,9 +55,9 @@ words_runs (suc n) l =
     ∙ (λ i. run (word_at 0 l) (y i) ∷ (ap (λ (t : List ℕ). runs_of (words_in (n * 2) t)) d ∙ words_runs n (drop 16 l)) i)
 
 -- the runs of an image whose memory holds them
-image_runs : (n : ℕ) (m : List ℕ) → n ≤ 1024 → 16544 ≤ length m → image_runs n m ≡ runs_in n (drop 160 m)
+image_runs_lem : (n : ℕ) (m : List ℕ) → n ≤ 1024 → 16544 ≤ length m → image_runs n m ≡ runs_in n (drop 160 m)
 unfolding image_numbers
-image_runs n m h l = ap (λ (k : ℕ). runs_of (words_in (k * 2) (drop 160 m))) (image_all n m h (omega arith)) ∙ words_runs n (drop 160 m)
+image_runs_lem n m h l = ap (λ (k : ℕ). runs_of (words_in (k * 2) (drop 160 m))) (image_all n m h (omega arith)) ∙ words_runs n (drop 160 m)
 
 runs_wide : (m : ℕ) (rs : List ZeroExtent) → From m rs → EndsBy 18446744073709551615 rs → Wide (numbers_of rs)
 runs_wide m [] f e k = omega arith
@@ -80,7 +80,7 @@ module _ (b : Superblock) (rs : List ZeroExtent) (mem : List ℕ) (fit : Fits 10
   runs_stored =
       let ns : List ℕ = numbers_of rs in
       let long : length (store_in b ns mem) ≡ length mem = length-overwrite 0 (prefix (seal b ns) ns) mem in
-      image_runs (length rs) (store_in b ns mem) fit.few (omega arith)
+      image_runs_lem (length rs) (store_in b ns mem) fit.few (omega arith)
       ∙ runs_in-alike (length rs) (drop 160 (store_in b ns mem)) (drop 160 (encode (seal b ns) ns)) (λ i h.
       get_or-drop 160 (store_in b ns mem) i 0 ∙ stored_at b ns mem (omega arith) (160 + i) (omega (arith, fit.counted, fit.few)) ∙ sym (get_or-drop 160 (encode (seal b ns) ns) i 0))
       ∙ runs_encode (seal b ns) ns (length rs) fit.few (length-numbers rs) (runs_wide 0 rs (normalized_from rs fit.sorted) fit.ends)
@@ -121,7 +121,7 @@ loaded b m bytes l e =
     let j : Judged (decode m) b (normalized (block_runs m)) = judged (decode m) _ (normalized (block_runs m)) b e in
     let n : (decode m).zero_extent_count ≡ b.zero_extent_count = ap (λ (x : Superblock). x.zero_extent_count) j.is in
     let few : b.zero_extent_count ≤ 1024 = omega (arith, j.few) in
-    let r : image_runs b.zero_extent_count m ≡ runs_in b.zero_extent_count (drop 160 m) = image_runs b.zero_extent_count m few (omega arith) in
+    let r : image_runs b.zero_extent_count m ≡ runs_in b.zero_extent_count (drop 160 m) = image_runs_lem b.zero_extent_count m few (omega arith) in
     record {
       decoded = j.is;
       counted = ap length r ∙ length-runs_in b.zero_extent_count (drop 160 m);

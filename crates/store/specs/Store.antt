@@ -24,7 +24,7 @@ use Rattle.store.specs.declared.Answer.TheVariants.{Done, Size, Read, Exported, 
 use Rattle.store.specs.declared.ChecksumRefresh.{ChecksumRefresh}
 use Rattle.store.specs.Codec.{Codec, sealed, stored}
 use Rattle.store.specs.Blocks.{importing, refreshing, after_commit, after_import_begin, after_import_chunk, after_import_cancel, after_import_finish, after_refresh, after_refresh_step}
-use Rattle.store.specs.Calls.{Call, begin, read, write, truncate, commit, rollback, fileSize, import_begin, import_chunk, import_finish, importCancel, export, checksum, refresh, refresh_step, Lent, Out, out, Uses, uses, lent_bytes, Mode, idle, update, mode_of, short, cleared, with_mem, with_buffers}
+use Rattle.store.specs.Calls.{Call, begin, read, write, truncate, commit, rollback, file_size, import_begin, import_chunk, import_finish, import_cancel, export, checksum, refresh, refresh_step, Lent, Out, out, Uses, uses, lent_bytes, Mode, idle, update, mode_of, short, cleared, with_mem, with_buffers}
 use Rattle.store.specs.Plan.{store_plan, required}
 
 -- ## States
@@ -260,11 +260,11 @@ module _ (P S C L M : ℕ) (k : Codec) where
       (truncate_reach P M (frame_count P l.bufs) (entry_count l.bufs) (image s.block l.mem) n) (mode_of s)
   act s l commit = do_commit s l (mode_of s)
   act s l rollback = do_rollback s l (mode_of s)
-  act s l fileSize = out s l (Size (size_now s (mode_of s))) []
+  act s l file_size = out s l (Size (size_now s (mode_of s))) []
   act s l (import_begin t e) = alone s l (import_begin t e) (do_import_begin s l t e) (mode_of s)
   act s l (import_chunk o bs) = alone s l (import_chunk o bs) (do_import_chunk s l o bs) (mode_of s)
   act s l import_finish = alone s l import_finish (do_import_finish s l) (mode_of s)
-  act s l importCancel = alone s l importCancel (do_import_cancel s l) (mode_of s)
+  act s l import_cancel = alone s l import_cancel (do_import_cancel s l) (mode_of s)
   act s l (export o d) = alone s l (export o d) (do_export s l o d) (mode_of s)
   act s l checksum = alone s l checksum (do_checksum s l) (mode_of s)
   act s l refresh = alone s l refresh (do_refresh s l) (mode_of s)

@@ -24,7 +24,7 @@ use Rattle.extents.specs.PlanLaws.{among}
 use Rattle.update.specs.declared.Overlay.{Overlay}
 use Rattle.update.specs.ListLaws.{clash, tests}
 use Rattle.update.specs.Pages.{page_numbers}
-use Rattle.update.specs.Update.{Over, fresh, Tried, accepted, refused, try_write, try_truncate}
+use Rattle.update.specs.Update.{Over, fresh, Tried, accepted, refused, try_write, try_truncate, truncate_reach}
 use Rattle.update.specs.Buffers.{frame_count, entry_count, wiped, view}
 use Rattle.update.specs.Changes.{Like}
 use Rattle.update.specs.Refused.{Weak}
@@ -33,7 +33,7 @@ use Rattle.store.specs.declared.Answer.{Answer}
 use Rattle.store.specs.declared.Answer.TheVariants.{Done, Read, Refused}
 use Rattle.store.specs.Codec.{Codec}
 use Rattle.store.specs.Blocks.{importing, refreshing}
-use Rattle.store.specs.Calls.{Call, begin, read, write, truncate, commit, rollback, fileSize, import_begin, import_chunk, import_finish, importCancel, export, checksum, refresh, refresh_step, Lent, Out, out, number, uses, lent_bytes, Mode, idle, update, mode_of, short, cleared, with_mem, with_buffers}
+use Rattle.store.specs.Calls.{Call, begin, read, write, truncate, commit, rollback, file_size, import_begin, import_chunk, import_finish, import_cancel, export, checksum, refresh, refresh_step, Lent, Out, out, number, uses, lent_bytes, Mode, idle, update, mode_of, short, cleared, with_mem, with_buffers}
 use Rattle.store.specs.Plan.{required}
 use Rattle.store.specs.Store.{budget_of, refuse, ended, image, runs_of, over, publish, settle, unchanged, planned_runs, commit_over, direct, change, do_begin, do_read, full, do_commit, do_rollback, restore, do_import_begin, place_chunk, do_import_chunk, do_import_finish, do_import_cancel, do_export, do_checksum, do_refresh, refresh_from, do_refresh_step, write_pages, alone, act, swept, store}
 use Rattle.store.specs.Lawful.{Lawful, Good}
@@ -238,15 +238,15 @@ module _ (P S C L M : ℕ) (k : Codec) where
   unfolding do_export do_checksum
   act_long s l (begin g p b) = begun_long s l g p b (importing s.block) (mode_of s)
   act_long s l (read o d) = read_long s l o (length d) (mode_of s)
-  act_long s l (write o bs) = change_long s l (try_write P M (frame_count P l.bufs) (entry_count l.bufs) (image P S C L M k s.block l.mem) o bs) _ (mode_of s)
-  act_long s l (truncate n) = change_long s l (try_truncate P M (frame_count P l.bufs) (entry_count l.bufs) (image P S C L M k s.block l.mem) n) _ (mode_of s)
+  act_long s l (write o bs) = change_long s l (try_write P M (frame_count P l.bufs) (entry_count l.bufs) (image P S C L M k s.block l.mem) o bs) (λ v. 0) (mode_of s)
+  act_long s l (truncate n) = change_long s l (try_truncate P M (frame_count P l.bufs) (entry_count l.bufs) (image P S C L M k s.block l.mem) n) (truncate_reach P M (frame_count P l.bufs) (entry_count l.bufs) (image P S C L M k s.block l.mem) n) (mode_of s)
   act_long s l commit = end_long s l (mode_of s)
   act_long s l rollback = back_long s l (mode_of s)
-  act_long s l fileSize = refl
+  act_long s l file_size = refl
   act_long s l (import_begin t e) = alone_long s l (import_begin t e) _ (mode_of s) (begin_long s l t e)
   act_long s l (import_chunk o bs) = alone_long s l (import_chunk o bs) _ (mode_of s) (chunk_long s l o bs)
   act_long s l import_finish = alone_long s l import_finish _ (mode_of s) (finish_long s l)
-  act_long s l importCancel = alone_long s l importCancel _ (mode_of s) (cancel_long s l)
+  act_long s l import_cancel = alone_long s l import_cancel _ (mode_of s) (cancel_long s l)
   act_long s l (export o d) = alone_long s l (export o d) _ (mode_of s) refl
   act_long s l checksum = alone_long s l checksum _ (mode_of s) refl
   act_long s l refresh = alone_long s l refresh _ (mode_of s) (refresh_long s l)

@@ -28,7 +28,7 @@ use Rattle.store.specs.declared.Answer.TheVariants.{Done, Exported, Checksum, Re
 use Rattle.store.specs.declared.Step.{Step}
 use Rattle.store.specs.Codec.{real_codec, sealed, stored, real_sealed, real_stored}
 use Rattle.store.specs.Blocks.{importing, refreshing, after_import_begin, after_import_cancel, after_import_finish, after_refresh, after_refresh_step}
-use Rattle.store.specs.Calls.{Call, begin, read, write, truncate, commit, rollback, fileSize, import_begin, import_chunk, import_finish, importCancel, export, checksum, refresh, refresh_step, Lent, Out, out, Uses, uses, these, lent_bytes, mode_if, mode_of, buffers_short, short}
+use Rattle.store.specs.Calls.{Call, begin, read, write, truncate, commit, rollback, file_size, import_begin, import_chunk, import_finish, import_cancel, export, checksum, refresh, refresh_step, Lent, Out, out, Uses, uses, these, lent_bytes, mode_if, mode_of, buffers_short, short}
 use Rattle.store.specs.Store.{store, act, alone, refuse, swept, onward, restore, image_bytes, image_sum, do_import_begin, do_import_chunk, do_import_finish, do_import_cancel, do_export, do_checksum, do_refresh, do_refresh_step, refresh_from, place_chunk, progress}
 use Rattle.transfer.specs.OnMemory.{lent}
 use Rattle.transfer.specs.Steps.{StepOut, step_out, step, restore_to, place_to, chunk_reach, chunk_to, refresh_to, refresh_step_to}
@@ -57,7 +57,7 @@ abbrev pub doing : State → Lent → Call → Out
 doing s l (import_begin t e) = do_import_begin 16384 65536 8 1024 most real_codec s l t e
 doing s l (import_chunk o bs) = do_import_chunk 16384 65536 8 1024 most real_codec s l o bs
 doing s l import_finish = do_import_finish 16384 65536 8 1024 most real_codec s l
-doing s l importCancel = do_import_cancel 16384 65536 8 1024 most real_codec s l
+doing s l import_cancel = do_import_cancel 16384 65536 8 1024 most real_codec s l
 doing s l (export o d) = do_export 16384 65536 8 1024 most real_codec s l o d
 doing s l checksum = do_checksum 16384 65536 8 1024 most real_codec s l
 doing s l refresh = do_refresh 16384 65536 8 1024 most real_codec s l
@@ -68,13 +68,13 @@ doing s l (write o bs) = act 16384 65536 8 1024 most real_codec s l (write o bs)
 doing s l (truncate n) = act 16384 65536 8 1024 most real_codec s l (truncate n)
 doing s l commit = act 16384 65536 8 1024 most real_codec s l commit
 doing s l rollback = act 16384 65536 8 1024 most real_codec s l rollback
-doing s l fileSize = act 16384 65536 8 1024 most real_codec s l fileSize
+doing s l file_size = act 16384 65536 8 1024 most real_codec s l file_size
 
 act_is : (s : State) (l : Lent) (c : Call) → uses c ≡ these true false false → act 16384 65536 8 1024 most real_codec s l c ≡ alone 16384 65536 8 1024 most real_codec s l c (doing s l c) (mode_of s)
 act_is s l (import_begin t e) u = refl
 act_is s l (import_chunk o bs) u = refl
 act_is s l import_finish u = refl
-act_is s l importCancel u = refl
+act_is s l import_cancel u = refl
 act_is s l (export o d) u = refl
 act_is s l checksum u = refl
 act_is s l refresh u = refl
@@ -85,7 +85,7 @@ act_is s l (write o bs) u = absurd (true≢false (ap (λ (z : Uses). z.bufs?) u)
 act_is s l (truncate n) u = absurd (true≢false (ap (λ (z : Uses). z.bufs?) u))
 act_is s l commit u = absurd (true≢false (ap (λ (z : Uses). z.bufs?) u))
 act_is s l rollback u = absurd (true≢false (ap (λ (z : Uses). z.mem?) (sym u)))
-act_is s l fileSize u = absurd (true≢false (ap (λ (z : Uses). z.mem?) (sym u)))
+act_is s l file_size u = absurd (true≢false (ap (λ (z : Uses). z.mem?) (sym u)))
 
 module _ (s : State) (m : List ℕ) (b : Buffers) (w : List ℕ) (c : Call) (only : uses c ≡ these true false false) where
   store_is : store 16384 65536 8 1024 most real_codec s (lent m b w) c
@@ -119,8 +119,8 @@ pub not_false : (t u : Bool) → t ≡ u → not t ≡ false → u ≡ true
 not_false true u e h = sym e
 not_false false u e h = absurd (true≢false h)
 
-pub too_short : (s : State) (m : List ℕ) (t : Bool) → t ≡ leb (s.count.0 * 65536) (length m) → not t ≡ true → length m < s.count.0 * 65536
-too_short s m t e f = leb-false _ _ (not_true t _ e f)
+pub too_short_lem : (s : State) (m : List ℕ) (t : Bool) → t ≡ leb (s.count.0 * 65536) (length m) → not t ≡ true → length m < s.count.0 * 65536
+too_short_lem s m t e f = leb-false _ _ (not_true t _ e f)
 
 pub is_lent : (s : State) (m : List ℕ) (t : Bool) → t ≡ leb (s.count.0 * 65536) (length m) → not t ≡ false → s.count.0 * 65536 ≤ length m
 is_lent s m t e f = leb-true _ _ (not_false t _ e f)

@@ -1,5 +1,5 @@
 // The store's calls that are lent memory alone.
-ghost use Rattle.store.specs.Calls.{import_begin, import_chunk, import_finish, importCancel, export, checksum, refresh, refresh_step};
+ghost use Rattle.store.specs.Calls.{import_begin, import_chunk, import_finish, import_cancel, export, checksum, refresh, refresh_step};
 ghost use Rattle.std.specs.Prelude.{[]};
 ghost use Rattle.yuharopu.specs.StoreCalls.{CallsOnMemory, AsksOnMemory};
 
@@ -62,7 +62,7 @@ pub extern "C" fn yuharopu_cancel_import(
     mem: &mut [u8],
     answer: &mut [u64],
 ) -> u64
-    ensures { CallsOnMemory state.old answer.old mem.old importCancel result state.new answer.new mem.new }
+    ensures { CallsOnMemory state.old answer.old mem.old import_cancel result state.new answer.new mem.new }
 {
     if encoding::are_short(state, answer) {
         return BUFFER_TOO_SHORT;

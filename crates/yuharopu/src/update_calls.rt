@@ -1,7 +1,7 @@
 // The store's calls that open an image and work on an update of it.
 ghost use Rattle.std.specs.Prelude.{◌≡◌, []};
 ghost use Rattle.update.specs.Laid.{bufs};
-ghost use Rattle.store.specs.Calls.{begin, write, truncate, commit, rollback, fileSize};
+ghost use Rattle.store.specs.Calls.{begin, write, truncate, commit, rollback, file_size};
 ghost use Rattle.transfer.specs.OnMemory.{lent};
 ghost use Rattle.encoding.specs.Called.{called, call, open_called, open_at};
 ghost use Rattle.yuharopu.specs.StoreCalls.{is_set, CallsAlone, AsksAlone, CallsOnBuffers, CallsToRead, shown, dirty_shown};
@@ -47,7 +47,7 @@ pub extern "C" fn yuharopu_begin_update(
 
 #[unsafe(no_mangle)]
 pub extern "C" fn yuharopu_file_size(state: &[u8], answer: &mut [u64]) -> u64
-    ensures { AsksAlone state.now answer.old fileSize result answer.new }
+    ensures { AsksAlone state.now answer.old file_size result answer.new }
 {
     if encoding::are_short(state, answer) {
         return BUFFER_TOO_SHORT;

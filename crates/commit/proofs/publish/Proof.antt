@@ -45,7 +45,7 @@ returns-2 c =
     let s = c.before.before.before.before.before.before.before.before.before.before.before.before.before.before.before.before.before.before.before.before.before.before.before in
     let a = s.args in
     publish_grown 16384 65536 8 1024 18446744073709551615 a.update a.s a.mem.now a.o.size (pages_in 16384 (take a.o.dirty a.numbers.now) a.frames.now) a.runs.now a.end _ _ c.before.before.before.before.before.before.before.before.before.before.before.before.before.before.before.grow.ensures
-    _ _ _ _ _ _ c.before.before.before.before.before.before.before.before.before.before.before.grown2.given.1 s.requires.2 c.before.before.before.before.before.before.before.before.before.page-count-for-size.ensures c.before.before.before.before.before.before.before.write-pages.ensures c.before.before.before.before.after_commit_lem.ensures c.before.before.store.ensures
+    _ _ _ _ _ _ c.before.before.before.before.before.before.before.before.before.before.before.grown2.given.1 s.requires.2 c.before.before.before.before.before.before.before.before.before.page-count-for-size.ensures c.before.before.before.before.before.before.before.write-pages.ensures c.before.before.before.before.after_commit.ensures c.before.before.store.ensures
 
 pub publish-spec : {M : Type 1} → statement M
 publish-spec =

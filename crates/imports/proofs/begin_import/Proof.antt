@@ -2,7 +2,7 @@ use mathlib.Core.Path.{refl, sym, ◌∙◌, ap, ◌≡◌}
 use mathlib.Core.List.{[]}
 use Rattle.config.specs.declared.refusal.Refusal.TheVariants.{BufferTooShort, UpdateInProgress, ImportAlreadyStarted, OffsetOverflow}
 use Rattle.store.specs.Calls.{import_begin}
-use Rattle.transfer.specs.StoreCases.{refused_as, answered_as, too_short, is_lent, short_refused, updating_refused, idle_acts, begin_open, begin_over, begin_done}
+use Rattle.transfer.specs.StoreCases.{refused_as, answered_as, too_short_lem, is_lent, short_refused, updating_refused, idle_acts, begin_open, begin_over, begin_done}
 use Rattle.meta.specs.declared.superblock.Superblock.{Superblock}
 use Rattle.store.specs.declared.Answer.TheVariants.{Done}
 use Rattle.transfer.specs.Steps.{restore_to}
@@ -30,7 +30,7 @@ returns : tie.Need-returns
 returns c =
     let a = c.before.before.before.before.before.before.args in
     λ b w. refused_as a.s a.mem.now b w BufferTooShort [] c.refuse.result _ c.refuse.ensures
-    (short_refused a.s a.mem.now b w (import_begin a.total a.expected) refl (too_short a.s a.mem.now c.before.before.is_lent.result c.before.before.is_lent.ensures c.before.if1.true))
+    (short_refused a.s a.mem.now b w (import_begin a.total a.expected) refl (too_short_lem a.s a.mem.now c.before.before.is_lent.result c.before.before.is_lent.ensures c.before.if1.true))
 
 -- src/import.rt:26:9
 refuse-requires-2 : tie.Need-refuse-requires-2

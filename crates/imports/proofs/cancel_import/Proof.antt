@@ -1,8 +1,8 @@
 use mathlib.Core.Path.{refl, ◌∙◌, ap}
 use mathlib.Core.List.{[]}
 use Rattle.config.specs.declared.refusal.Refusal.TheVariants.{BufferTooShort, UpdateInProgress, ImportNotStarted}
-use Rattle.store.specs.Calls.{importCancel}
-use Rattle.transfer.specs.StoreCases.{refused_as, answered_as, too_short, is_lent, not_true, not_false, short_refused, updating_refused, idle_acts, cancel_none, cancel_done}
+use Rattle.store.specs.Calls.{import_cancel}
+use Rattle.transfer.specs.StoreCases.{refused_as, answered_as, too_short_lem, is_lent, not_true, not_false, short_refused, updating_refused, idle_acts, cancel_none, cancel_done}
 use Rattle.meta.specs.declared.superblock.Superblock.{Superblock}
 use Rattle.store.specs.declared.Answer.TheVariants.{Done}
 use Rattle.transfer.specs.Steps.{restore_to}
@@ -27,7 +27,7 @@ returns : tie.Need-returns
 returns c =
     let a = c.before.before.before.before.before.before.args in
     λ b w. refused_as a.s a.mem.now b w BufferTooShort [] c.refuse.result _ c.refuse.ensures
-    (short_refused a.s a.mem.now b w importCancel refl (too_short a.s a.mem.now c.before.before.is_lent.result c.before.before.is_lent.ensures c.before.if1.true))
+    (short_refused a.s a.mem.now b w import_cancel refl (too_short_lem a.s a.mem.now c.before.before.is_lent.result c.before.before.is_lent.ensures c.before.if1.true))
 
 -- src/import.rt:169:9
 refuse-requires-2 : tie.Need-refuse-requires-2
@@ -42,7 +42,7 @@ returns-2 : tie.Need-returns-2
 returns-2 c =
     let a = c.before.before.before.before.before.before.before.args in
     λ b w. refused_as a.s a.mem.now b w UpdateInProgress [] c.refuse2.result _ c.refuse2.ensures
-    (updating_refused a.s a.mem.now b w importCancel refl (is_lent a.s a.mem.now c.before.before.before.is_lent.result c.before.before.before.is_lent.ensures c.before.before.if1.false) c.before.if2.true)
+    (updating_refused a.s a.mem.now b w import_cancel refl (is_lent a.s a.mem.now c.before.before.before.is_lent.result c.before.before.before.is_lent.ensures c.before.before.if1.false) c.before.if2.true)
 
 -- src/import.rt:172:9
 is-importing-requires : tie.Need-is-importing-requires
@@ -61,7 +61,7 @@ returns-3 : tie.Need-returns-3
 returns-3 c =
     let a = c.before.before.before.before.before.before.before.before.before.before.args in
     λ b w. refused_as a.s a.mem.now b w ImportNotStarted [] c.refuse3.result _ c.refuse3.ensures
-    (idle_acts a.s a.mem.now b w importCancel refl (is_lent a.s a.mem.now c.before.before.before.before.before.before.is_lent.result c.before.before.before.before.before.before.is_lent.ensures c.before.before.before.before.before.if1.false) c.before.before.before.before.if2.false ∙ cancel_none a.s a.mem.now b w (not_true _ _ c.before.before.is-importing.ensures c.before.if3.true))
+    (idle_acts a.s a.mem.now b w import_cancel refl (is_lent a.s a.mem.now c.before.before.before.before.before.before.is_lent.result c.before.before.before.before.before.before.is_lent.ensures c.before.before.before.before.before.if1.false) c.before.before.before.before.if2.false ∙ cancel_none a.s a.mem.now b w (not_true _ _ c.before.before.is-importing.ensures c.before.if3.true))
 
 -- src/import.rt:175:27
 after-import-cancel-requires : tie.Need-after-import-cancel-requires
@@ -80,7 +80,7 @@ returns-4 : tie.Need-returns-4
 returns-4 c =
     let a = c.before.before.before.before.before.before.before.before.before.before.before.before.before.before.args in
     λ b w. answered_as b w c.before.before.restore.result c.before.before.restore.new.1.0 _ _ (c.before.before.restore.ensures ∙ ap (λ (k : Superblock). restore_to a.s a.mem.now k Done) c.before.before.before.after-import-cancel.ensures)
-    (idle_acts a.s a.mem.now b w importCancel refl (is_lent a.s a.mem.now c.before.before.before.before.before.before.before.before.before.before.is_lent.result c.before.before.before.before.before.before.before.before.before.before.is_lent.ensures c.before.before.before.before.before.before.before.before.before.if1.false) c.before.before.before.before.before.before.before.before.if2.false ∙ cancel_done a.s a.mem.now b w (not_false _ _ c.before.before.before.before.before.before.is-importing.ensures c.before.before.before.before.before.if3.false))
+    (idle_acts a.s a.mem.now b w import_cancel refl (is_lent a.s a.mem.now c.before.before.before.before.before.before.before.before.before.before.is_lent.result c.before.before.before.before.before.before.before.before.before.before.is_lent.ensures c.before.before.before.before.before.before.before.before.before.if1.false) c.before.before.before.before.before.before.before.before.if2.false ∙ cancel_done a.s a.mem.now b w (not_false _ _ c.before.before.before.before.before.before.is-importing.ensures c.before.before.before.before.before.if3.false))
 
 pub cancel-import-spec : {M : Type 1} → statement M
 cancel-import-spec =

@@ -2,7 +2,7 @@ use mathlib.Core.Path.{refl, ◌∙◌, ap}
 use mathlib.Core.List.{[]}
 use Rattle.config.specs.declared.refusal.Refusal.TheVariants.{BufferTooShort, UpdateInProgress, ImportNotStarted, ImportIncomplete, ChecksumMismatch}
 use Rattle.store.specs.Calls.{import_finish}
-use Rattle.transfer.specs.StoreCases.{refused_as, answered_as, too_short, is_lent, not_true, not_false, short_refused, updating_refused, idle_acts, finish_none, finish_incomplete, finish_wrong, finish_done}
+use Rattle.transfer.specs.StoreCases.{refused_as, answered_as, too_short_lem, is_lent, not_true, not_false, short_refused, updating_refused, idle_acts, finish_none, finish_incomplete, finish_wrong, finish_done}
 use Prim.Native.Nat.{ℕ}
 use Rattle.meta.specs.declared.superblock.Superblock.{Superblock}
 use Rattle.meta.specs.Block.{seal, store_in}
@@ -32,7 +32,7 @@ returns : tie.Need-returns
 returns c =
     let a = c.before.before.before.before.before.before.args in
     λ b w. refused_as a.s a.mem.now b w BufferTooShort [] c.refuse.result _ c.refuse.ensures
-    (short_refused a.s a.mem.now b w import_finish refl (too_short a.s a.mem.now c.before.before.is_lent.result c.before.before.is_lent.ensures c.before.if1.true))
+    (short_refused a.s a.mem.now b w import_finish refl (too_short_lem a.s a.mem.now c.before.before.is_lent.result c.before.before.is_lent.ensures c.before.if1.true))
 
 -- src/import.rt:132:9
 refuse-requires-2 : tie.Need-refuse-requires-2

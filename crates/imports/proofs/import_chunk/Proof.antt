@@ -4,7 +4,7 @@ use mathlib.Core.Path.{refl, ◌∙◌}
 use mathlib.Core.List.{[]}
 use Rattle.config.specs.declared.refusal.Refusal.TheVariants.{BufferTooShort, UpdateInProgress, ImportNotStarted, ImportOutOfOrder, OffsetOverflow, ImportOutOfBounds}
 use Rattle.store.specs.Calls.{import_chunk}
-use Rattle.transfer.specs.StoreCases.{refused_as, answered_as, too_short, is_lent, not_true, not_false, short_refused, updating_refused, idle_acts, chunk_none, chunk_order, chunk_over, chunk_bounds, chunk_past, chunk_placed}
+use Rattle.transfer.specs.StoreCases.{refused_as, answered_as, too_short_lem, is_lent, not_true, not_false, short_refused, updating_refused, idle_acts, chunk_none, chunk_order, chunk_over, chunk_bounds, chunk_past, chunk_placed}
 use native.Mathlib.Omega.{arith}
 use borrow.Author.Rules.{rules}
 use Rattle.imports.proofs.import_chunk.Statement.{statement}
@@ -27,7 +27,7 @@ returns : tie.Need-returns
 returns c =
     let a = c.before.before.before.before.before.before.before.args in
     λ b w. refused_as a.s a.mem.now b w BufferTooShort [] c.refuse.result _ c.refuse.ensures
-    (short_refused a.s a.mem.now b w (import_chunk a.offset a.bytes.now) refl (too_short a.s a.mem.now c.before.before.is_lent.result c.before.before.is_lent.ensures c.before.if1.true))
+    (short_refused a.s a.mem.now b w (import_chunk a.offset a.bytes.now) refl (too_short_lem a.s a.mem.now c.before.before.is_lent.result c.before.before.is_lent.ensures c.before.if1.true))
 
 -- src/import.rt:85:9
 refuse-requires-2 : tie.Need-refuse-requires-2

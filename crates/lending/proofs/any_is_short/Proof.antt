@@ -1,6 +1,6 @@
 use mathlib.Core.Path.{sym, ◌∙◌}
 use Rattle.update.specs.Laid.{bufs}
-use Rattle.transfer.specs.StoreCases.{too_short, is_lent}
+use Rattle.transfer.specs.StoreCases.{too_short_lem, is_lent}
 use Rattle.lending.specs.FirstTests.{any_memory, any_buffers, any_work}
 use borrow.Author.Rules.{rules}
 use Rattle.lending.proofs.any_is_short.Statement.{statement}
@@ -14,7 +14,7 @@ is-lent-requires c κs = search rules
 returns : tie.Need-returns
 returns c =
     let a = c.before.before.before.before.before.before.before.before.before.args in
-    sym (any_memory a.s a.mem.now (bufs a.frames.now a.numbers.now a.clean.now a.«record».now) a.work.now (too_short a.s a.mem.now c.before.is_lent.result c.before.is_lent.ensures c.if1.true))
+    sym (any_memory a.s a.mem.now (bufs a.frames.now a.numbers.now a.clean.now a.«record».now) a.work.now (too_short_lem a.s a.mem.now c.before.is_lent.result c.before.is_lent.ensures c.if1.true))
 
 -- src/lending.rt:86:8
 are-short-requires : tie.Need-are-short-requires

@@ -15,7 +15,7 @@ use Rattle.store.specs.Codec.{real_codec}
 use Rattle.store.specs.Calls.{out}
 use Rattle.store.specs.Store.{full, working}
 use Rattle.transfer.specs.OnMemory.{lent}
-use Rattle.transfer.specs.StoreCases.{refused_as, too_short, is_lent, not_true, not_false}
+use Rattle.transfer.specs.StoreCases.{refused_as, too_short_lem, is_lent, not_true, not_false}
 use Rattle.reading.specs.ReadCases.{read_memory, read_buffers, read_idle, read_updating}
 use borrow.Author.Rules.{rules}
 use Rattle.reading.proofs.read_at.Statement.{statement}
@@ -34,7 +34,7 @@ returns : tie.Need-returns
 returns c =
     let a = c.before.before.before.before.before.before.before.before.before.before.args in
     λ w. refused_as a.s a.mem.now (bufs a.frames.now a.numbers.now a.clean.now a.«record».now) w BufferTooShort a.dst.now c.refuse.result _ c.refuse.ensures
-    (read_memory a.s a.mem.now (bufs a.frames.now a.numbers.now a.clean.now a.«record».now) w a.offset a.dst.now (too_short a.s a.mem.now c.before.before.is_lent.result c.before.before.is_lent.ensures c.before.if1.true))
+    (read_memory a.s a.mem.now (bufs a.frames.now a.numbers.now a.clean.now a.«record».now) w a.offset a.dst.now (too_short_lem a.s a.mem.now c.before.before.is_lent.result c.before.before.is_lent.ensures c.before.if1.true))
 
 -- src/reading.rt:58:8
 are-short-requires : tie.Need-are-short-requires

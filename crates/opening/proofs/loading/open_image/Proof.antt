@@ -9,7 +9,7 @@ use Rattle.store.specs.declared.Answer.TheVariants.{Done}
 use Rattle.transfer.specs.Steps.{step}
 use Rattle.transfer.specs.StoreCases.{not_true, not_false}
 use Rattle.opening.specs.Opened.{opened}
-use Rattle.opening.specs.OpeningCases.{open_short, open_fresh, open_refused, open_outside, open_done}
+use Rattle.opening.specs.OpeningCases.{open_short, open_fresh_lem, open_refused, open_outside, open_done}
 use borrow.Author.Rules.{rules}
 use Rattle.opening.proofs.loading.open_image.Statement.{statement}
 use Rattle.opening.proofs.loading.open_image.Tie as tie
@@ -45,7 +45,7 @@ returns-2 : tie.Need-returns-2
 returns-2 c =
     let a = c.before.before.before.before.before.before.before.before.before.before.args in
     let held : a.count.0 * 65536 ≤ length a.mem.now = leb-true _ _ (not_false _ _ c.before.before.before.before.before.before.before.is_lent.ensures c.before.before.before.before.before.before.if1.false) in
-    c.before.before.open_fresh.ensures ∙ sym (open_fresh a.count.0 a.mem.now held c.before.before.before.before.if2.true)
+    c.before.before.open_fresh.ensures ∙ sym (open_fresh_lem a.count.0 a.mem.now held c.before.before.before.before.if2.true)
 
 -- src/opening.rt:101:11
 load-requires : tie.Need-load-requires

@@ -2,7 +2,7 @@ use mathlib.Core.Path.{refl, sym, ◌∙◌, ap}
 use mathlib.Core.List.{[]}
 use Rattle.config.specs.declared.refusal.Refusal.TheVariants.{BufferTooShort, UpdateInProgress}
 use Rattle.store.specs.Calls.{checksum, out}
-use Rattle.transfer.specs.StoreCases.{refused_as, too_short, is_lent, short_refused, updating_refused, idle_acts, checksum_done}
+use Rattle.transfer.specs.StoreCases.{refused_as, too_short_lem, is_lent, short_refused, updating_refused, idle_acts, checksum_done}
 use Prim.Native.Nat.{ℕ}
 use Rattle.store.specs.declared.Answer.TheVariants.{Checksum}
 use Rattle.transfer.specs.OnMemory.{lent}
@@ -23,7 +23,7 @@ returns : tie.Need-returns
 returns c =
     let a = c.before.before.before.before.before.args in
     λ b w. refused_as a.s a.mem.now b w BufferTooShort [] c.refuse.result _ c.refuse.ensures
-    (short_refused a.s a.mem.now b w checksum refl (too_short a.s a.mem.now c.before.before.is_lent.result c.before.before.is_lent.ensures c.before.if1.true))
+    (short_refused a.s a.mem.now b w checksum refl (too_short_lem a.s a.mem.now c.before.before.is_lent.result c.before.before.is_lent.ensures c.before.if1.true))
 
 -- src/sums.rt:74:9
 refuse-requires-2 : tie.Need-refuse-requires-2

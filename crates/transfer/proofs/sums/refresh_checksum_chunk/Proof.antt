@@ -2,7 +2,7 @@ use mathlib.Core.Path.{refl, sym, ◌∙◌}
 use mathlib.Core.List.{[]}
 use Rattle.config.specs.declared.refusal.Refusal.TheVariants.{BufferTooShort, UpdateInProgress, ChecksumRefreshChunkEmpty, ImportAlreadyStarted}
 use Rattle.store.specs.Calls.{refresh_step}
-use Rattle.transfer.specs.StoreCases.{refused_as, answered_as, too_short, is_lent, short_refused, updating_refused, idle_acts, step_empty, step_importing, step_done}
+use Rattle.transfer.specs.StoreCases.{refused_as, answered_as, too_short_lem, is_lent, short_refused, updating_refused, idle_acts, step_empty, step_importing, step_done}
 use borrow.Author.Rules.{rules}
 use Rattle.transfer.proofs.sums.refresh_checksum_chunk.Statement.{statement}
 use Rattle.transfer.proofs.sums.refresh_checksum_chunk.Tie as tie
@@ -24,7 +24,7 @@ returns : tie.Need-returns
 returns c =
     let a = c.before.before.before.before.before.before.args in
     λ b w. refused_as a.s a.mem.now b w BufferTooShort [] c.refuse.result _ c.refuse.ensures
-    (short_refused a.s a.mem.now b w (refresh_step a.n) refl (too_short a.s a.mem.now c.before.before.is_lent.result c.before.before.is_lent.ensures c.before.if1.true))
+    (short_refused a.s a.mem.now b w (refresh_step a.n) refl (too_short_lem a.s a.mem.now c.before.before.is_lent.result c.before.before.is_lent.ensures c.before.if1.true))
 
 -- src/sums.rt:169:9
 refuse-requires-2 : tie.Need-refuse-requires-2

@@ -1,5 +1,5 @@
 -- `transfer_calls::yuharopu_cancel_import` meets its contract.
-use Rattle.store.specs.Calls.{importCancel}
+use Rattle.store.specs.Calls.{import_cancel}
 use Rattle.transfer.specs.OnMemory.{lent}
 use Rattle.encoding.specs.Called.{call_done, call_short}
 use Rattle.yuharopu.specs.StoreCalls.{enough, is_long, is_short, lengths}
@@ -19,7 +19,7 @@ same-length-2 c = search rules
 returns : tie.Need-returns
 returns c =
     let a = c.before.before.before.before.before.before.before.args in
-    λ b w. call_short a.state.now a.answer.now (lent a.mem.now b w) (importCancel) (is_short a.state.now a.answer.now _ c.before.are-short.ensures c.if1.true)
+    λ b w. call_short a.state.now a.answer.now (lent a.mem.now b w) (import_cancel) (is_short a.state.now a.answer.now _ c.before.are-short.ensures c.if1.true)
 
 decode-requires : tie.Need-decode-requires
 decode-requires c κs =
@@ -46,7 +46,7 @@ same-length-5 c = search rules
 returns-2 : tie.Need-returns-2
 returns-2 c =
     let a = c.before.before.before.before.before.before.before.before.before.before.before.before.before.before.before.before.before.before.before.before.args in
-    λ b w. call_done a.state.now a.answer.now (is_long a.state.now a.answer.now _ c.before.before.before.before.before.before.before.before.before.before.before.before.before.before.are-short.ensures c.before.before.before.before.before.before.before.before.before.before.before.before.before.if1.false) _ _ _ (importCancel) _ c.before.before.before.before.before.before.before.before.before.before.before.decode.ensures (c.before.before.before.before.before.before.before.before.before.cancel-import.ensures b w) c.before.before.before.before.show.ensures
+    λ b w. call_done a.state.now a.answer.now (is_long a.state.now a.answer.now _ c.before.before.before.before.before.before.before.before.before.before.before.before.before.before.are-short.ensures c.before.before.before.before.before.before.before.before.before.before.before.before.before.if1.false) _ _ _ (import_cancel) _ c.before.before.before.before.before.before.before.before.before.before.before.decode.ensures (c.before.before.before.before.before.before.before.before.before.cancel-import.ensures b w) c.before.before.before.before.show.ensures
 
 pub yuharopu-cancel-import-spec : {M : Type 1} → statement M
 yuharopu-cancel-import-spec =
