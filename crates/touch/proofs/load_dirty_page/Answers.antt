@@ -37,32 +37,30 @@ put v f ns rs p g c y l x z e h n d =
     let m : length y ≡ 16384 = rw k at n ∙ length_part at 16384 f h in
     rw (k, part_back at 16384 f y m h) ((λ j. laid (moved v (v.dirty + 1) (e j).cache g) (bufs (overwrite at (e j).frame f) (set ns v.dirty p) (e j).clean rs) Accepted) ∙ sym d)
 
-abbrev lent : tie.Start → Buffers
-lent s = bufs s.args.frames.now s.args.numbers.now s.args.clean.now s.args.«record».now
-
 few : (c : Start) → c.args.o.dirty * 16384 ≤ length c.args.frames.now
-few c = few_frames 16384 8 (omega arith) c.args.o (lent s) c.requires.0
+few c = few_frames 16384 8 (omega arith) c.args.o (bufs c.args.frames.now c.args.numbers.now c.args.clean.now c.args.«record».now) c.requires.0
 
 answer : (c : After-admit-asked) (x : Verdict) → c.admit-asked.result.verdict ≡ x
-    → admitted 16384 (frame_count 16384 (lent (goal.at.answer c).Start)) c.args.o.dirty c.args.o.budget ≡ record { budget = c.admit-asked.result.budget; verdict = x }
+    → admitted 16384 (frame_count 16384 (bufs c.args.frames.now c.args.numbers.now c.args.clean.now c.args.«record».now)) c.args.o.dirty c.args.o.budget ≡ record { budget = c.admit-asked.result.budget; verdict = x }
 unfolding frame_count
 answer c x d =
     rw c.frame_count.ensures at (answered 16384 c.frame_count.result c.args.o.dirty c.args.o.budget c.admit-asked.result x c.admit-asked.ensures d)
 
 -- a frame and its number are free
 free : (c : In_default) → (c.args.o.dirty * 16384 + 16384 ≤ length c.args.frames.now) × (c.args.o.dirty + 1 ≤ length c.args.numbers.now)
+unfolding frame_count
 free c =
     let a = c.args in
-    let e = answer (goal.at.free c).After-admit-asked Accepted c.in_default.is in
-    let h : a.o.dirty ≤ place_in a.o (lent (goal.at.free c).Start) a.page = omega (arith, c.if-at-dirty.false, c.find-at.ensures) in (
-      frame_free 16384 8 (omega arith) a.o (lent (goal.at.free c).Start) c.requires.0 18446744073709551615 a.image a.mem.now a.page h c.admit-asked.result.budget e,
-      number_free 16384 8 (omega arith) a.o (lent (goal.at.free c).Start) c.requires.0 18446744073709551615 a.image a.mem.now a.page h c.admit-asked.result.budget e,
+    let e = (rw c.frame_count.ensures at (answered 16384 c.frame_count.result c.args.o.dirty c.args.o.budget c.admit-asked.result Accepted c.admit-asked.ensures c.in_default.is)) in
+    let h : a.o.dirty ≤ place_in a.o (bufs c.args.frames.now c.args.numbers.now c.args.clean.now c.args.«record».now) a.page = omega (arith, c.if-at-dirty.false, c.find-at.ensures) in (
+      frame_free 16384 8 (omega arith) a.o (bufs c.args.frames.now c.args.numbers.now c.args.clean.now c.args.«record».now) c.requires.0 18446744073709551615 a.image a.mem.now a.page h c.admit-asked.result.budget e,
+      number_free 16384 8 (omega arith) a.o (bufs c.args.frames.now c.args.numbers.now c.args.clean.now c.args.«record».now) c.requires.0 18446744073709551615 a.image a.mem.now a.page h c.admit-asked.result.budget e,
     )
 
 pub returns-then-at-dirty : goal.returns-then-at-dirty
 returns-then-at-dirty c =
     let a = c.args in (
-      sym (load_held 16384 8 (omega arith) a.o (lent (goal.at.returns-then-at-dirty c).Start) c.requires.0 18446744073709551615 a.image a.mem.now a.page (omega (arith, c.if-at-dirty.true, c.find-at.ensures)) true),
+      sym (load_held 16384 8 (omega arith) a.o (bufs c.args.frames.now c.args.numbers.now c.args.clean.now c.args.«record».now) c.requires.0 18446744073709551615 a.image a.mem.now a.page (omega (arith, c.if-at-dirty.true, c.find-at.ensures)) true),
       c.find-at.ensures,
     )
 
@@ -73,7 +71,7 @@ pub returns-in-Refused : goal.returns-in-Refused
 returns-in-Refused c =
     let a = c.args in
     let found = c.find-at.ensures in (
-      sym (load_refused 16384 8 (omega arith) a.o (lent (goal.at.returns-in-Refused c).Start) c.requires.0 18446744073709551615 a.image a.mem.now a.page (omega (arith, c.if-at-dirty.false, found)) c.admit-asked.result.budget _ (answer (goal.at.returns-in-Refused c).After-admit-asked _ c.in-Refused.is) true _),
+      sym (load_refused 16384 8 (omega arith) a.o (bufs c.args.frames.now c.args.numbers.now c.args.clean.now c.args.«record».now) c.requires.0 18446744073709551615 a.image a.mem.now a.page (omega (arith, c.if-at-dirty.false, found)) c.admit-asked.result.budget _ (answer (goal.at.returns-in-Refused c).After-admit-asked _ c.in-Refused.is) true _),
       found,
     )
 
@@ -93,7 +91,7 @@ load-cache-requires c =
     (c.requires.0.1.1.1, c.requires.0.1.1.0, rw k (length_part (n * 16384) 16384 c.args.frames.now (free (goal.at.load-cache-requires c).In_default).0), c.requires.1)
 
 pub offset_bounds-numbers-dirty : goal.offset_bounds-numbers-dirty
-offset_bounds-numbers-dirty c = omega (arith, add-end (goal.at.offset_bounds-numbers-dirty c).In_default)
+offset_bounds-numbers-dirty c = omega (arith, free (goal.at.offset_bounds-numbers-dirty c).In_default)
 
 pub bounds-numbers-dirty : goal.bounds-numbers-dirty
 bounds-numbers-dirty c = omega (arith, free (goal.at.bounds-numbers-dirty c).In_default)
@@ -108,6 +106,6 @@ returns c =
     let x : LoadOut = load_laid 16384 8 a.o.cache a.clean.now (image_in 16384 a.image a.mem.now) (covers (runs_in a.o.recorded a.«record».now) a.page) a.page in
     let g = c.admit-asked.result.budget in (
       put a.o a.frames.now a.numbers.now a.«record».now a.page g c.load-cache.result c.load-cache.new.frame c.load-cache.new.clean x _ c.load-cache.ensures (free (goal.at.returns c).In_default).0 c.load-cache.auto.frame
-          (load_new 16384 8 (omega arith) a.o (lent (goal.at.returns c).Start) c.requires.0 18446744073709551615 a.image a.mem.now a.page (omega (arith, c.if-at-dirty.false, found)) g (answer (goal.at.returns c).After-admit-asked Accepted c.in_default.is)),
+          (load_new 16384 8 (omega arith) a.o (bufs c.args.frames.now c.args.numbers.now c.args.clean.now c.args.«record».now) c.requires.0 18446744073709551615 a.image a.mem.now a.page (omega (arith, c.if-at-dirty.false, found)) g (answer (goal.at.returns c).After-admit-asked Accepted c.in_default.is)),
       found,
     )

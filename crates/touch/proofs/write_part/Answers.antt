@@ -15,30 +15,23 @@ use borrow.Author.Rules.{rules}
 use Rattle.touch.proofs.write_part.Goals as goal
 use Rattle.touch.proofs.write_part.Goals.{After-load_dirty_page-loaded, In_default}
 
-abbrev lent : tie.Start → Buffers
-lent s = bufs s.args.frames.now s.args.numbers.now s.args.clean.now s.args.«record».now
-
--- the frames once the page is loaded
-abbrev frames' : tie.After-load-dirty-page → List ℕ
-frames' c = c.load-dirty-page.new.1.1.1.0
-
 loaded : (c : After-load_dirty_page-loaded) (x : Verdict) → c.load_dirty_page-loaded.result.verdict ≡ x
-    → touched 16384 8 18446744073709551615 c.args.image c.args.mem.now c.args.o (lent (goal.at.loaded c).Start) true same (c.args.offset / 16384)
-    ≡ laid c.load_dirty_page-loaded.result.overlay (bufs (frames' c) c.load_dirty_page-loaded.new.numbers c.load_dirty_page-loaded.new.clean c.args.«record».now) x
+    → touched 16384 8 18446744073709551615 c.args.image c.args.mem.now c.args.o (bufs c.args.frames.now c.args.numbers.now c.args.clean.now c.args.«record».now) true same (c.args.offset / 16384)
+    ≡ laid c.load_dirty_page-loaded.result.overlay (bufs c.load_dirty_page-loaded.new.frames c.load_dirty_page-loaded.new.numbers c.load_dirty_page-loaded.new.clean c.args.«record».now) x
 loaded c x d = sym (rw (c.page_no-page.ensures, d) at c.load_dirty_page-loaded.ensures.0)
 
-place : (c : After-load_dirty_page-loaded) → c.load_dirty_page-loaded.result.at ≡ place_in c.args.o (lent (goal.at.place c).Start) (c.args.offset / 16384)
+place : (c : After-load_dirty_page-loaded) → c.load_dirty_page-loaded.result.at ≡ place_in c.args.o (bufs c.args.frames.now c.args.numbers.now c.args.clean.now c.args.«record».now) (c.args.offset / 16384)
 place c = rw c.page_no-page.ensures at c.load_dirty_page-loaded.ensures.1
 
 -- the page's frame lies in the frames, which are as long as before
-framed : (c : In_default) → (c.load_dirty_page-loaded.result.at * 16384 + 16384 ≤ length (frames' (goal.at.framed c).After-load_dirty_page-loaded)) × (length (frames' (goal.at.framed c).After-load_dirty_page-loaded) < 18446744073709551616)
+framed : (c : In_default) → (c.load_dirty_page-loaded.result.at * 16384 + 16384 ≤ length c.load_dirty_page-loaded.new.frames) × (length c.load_dirty_page-loaded.new.frames < 18446744073709551616)
 framed c =
     let a = c.args in (
       omega (
         arith,
-        place (goal.at.framed c).After-load_dirty_page-loaded,
+        rw c.page_no-page.ensures at c.load_dirty_page-loaded.ensures.1,
         c.load_dirty_page-loaded.auto.frames,
-        frame_loaded 16384 8 (omega arith) a.o (lent (goal.at.framed c).Start) c.requires.0 18446744073709551615 a.image a.mem.now (a.offset / 16384) _ _ (loaded (goal.at.framed c).After-load_dirty_page-loaded Accepted c.in_default.is),
+        frame_loaded 16384 8 (omega arith) a.o (bufs c.args.frames.now c.args.numbers.now c.args.clean.now c.args.«record».now) c.requires.0 18446744073709551615 a.image a.mem.now (a.offset / 16384) _ _ (sym (rw (c.page_no-page.ensures, c.in_default.is) at c.load_dirty_page-loaded.ensures.0)),
       ),
       omega (arith, c.well_formed, c.load_dirty_page-loaded.auto.frames),
     )
@@ -46,7 +39,7 @@ framed c =
 pub returns-in-Refused : goal.returns-in-Refused
 returns-in-Refused c =
     let a = c.args in
-    sym (refused_alike 16384 8 (omega arith) a.o (lent (goal.at.returns-in-Refused c).Start) c.requires.0 18446744073709551615 a.image a.mem.now (a.offset / 16384) _ _ _ _ (loaded (goal.at.returns-in-Refused c).After-load_dirty_page-loaded _ c.in-Refused.is))
+    sym (refused_alike 16384 8 (omega arith) a.o (bufs c.args.frames.now c.args.numbers.now c.args.clean.now c.args.«record».now) c.requires.0 18446744073709551615 a.image a.mem.now (a.offset / 16384) _ _ _ _ (loaded (goal.at.returns-in-Refused c).After-load_dirty_page-loaded _ c.in-Refused.is))
 
 pub overflow_mul-loaded : goal.overflow_mul-loaded
 overflow_mul-loaded c = omega (arith, framed (goal.at.overflow_mul-loaded c).In_default)
@@ -58,12 +51,12 @@ pub returns : goal.returns
 returns c =
     let a = c.args in
     let v' = c.load_dirty_page-loaded.result.overlay in
-    let f : List ℕ = frames' (goal.at.returns c).After-load_dirty_page-loaded in
+    let f : List ℕ = c.load_dirty_page-loaded.new.frames in
     let n : List ℕ = c.load_dirty_page-loaded.new.numbers in
     let l : List ℕ = c.load_dirty_page-loaded.new.clean in
     let w : List ℕ = a.«record».now in
-    let p : ℕ = place_in a.o (lent (goal.at.returns c).Start) (a.offset / 16384) in
+    let p : ℕ = place_in a.o (bufs c.args.frames.now c.args.numbers.now c.args.clean.now c.args.«record».now) (a.offset / 16384) in
     let at : c.load_dirty_page-loaded.result.at * 16384 + c.page_offset-within.result ≡ p * 16384 + a.offset % 16384 = omega (arith, place (goal.at.returns c).After-load_dirty_page-loaded, c.page_offset-within.ensures) in
     let back : c.write.new.dst ≡ overwrite (p * 16384 + a.offset % 16384) a.bytes.now f = c.write.ensures ∙ ap (λ (x : ℕ). overwrite x a.bytes.now f) at in
     ap (λ (y : List ℕ). laid v' (bufs y n l w) Accepted) back
-    ∙ sym (touched_copy 16384 8 (omega arith) a.o (lent (goal.at.returns c).Start) c.requires.0 18446744073709551615 a.image a.mem.now a.offset a.bytes.now c.requires.1 v' f n l w (loaded (goal.at.returns c).After-load_dirty_page-loaded Accepted c.in_default.is))
+    ∙ sym (touched_copy 16384 8 (omega arith) a.o (bufs c.args.frames.now c.args.numbers.now c.args.clean.now c.args.«record».now) c.requires.0 18446744073709551615 a.image a.mem.now a.offset a.bytes.now c.requires.1 v' f n l w (loaded (goal.at.returns c).After-load_dirty_page-loaded Accepted c.in_default.is))

@@ -25,27 +25,20 @@ filled at place from to f new p h k e =
     let n : at * 16384 + to - (at * 16384 + from) ≡ to - from = omega arith in
     rw (e, n, ← p) (part_filled (at * 16384 + from) (to - from) f (omega arith))
 
-abbrev lent : tie.Start → Buffers
-lent s = bufs s.args.frames.now s.args.numbers.now s.args.clean.now s.args.«record».now
-
--- the frames once the page is loaded
-abbrev frames' : tie.After-load-dirty-page → List ℕ
-frames' c = c.load-dirty-page.new.1.1.1.0
-
 loaded : (c : After-load_dirty_page-loaded) (x : Verdict) → c.load_dirty_page-loaded.result.verdict ≡ x
-    → touched 16384 8 18446744073709551615 c.args.image c.args.mem.now c.args.o (lent (goal.at.loaded c).Start) true same c.args.page
-    ≡ laid c.load_dirty_page-loaded.result.overlay (bufs (frames' c) c.load_dirty_page-loaded.new.numbers c.load_dirty_page-loaded.new.clean c.args.«record».now) x
+    → touched 16384 8 18446744073709551615 c.args.image c.args.mem.now c.args.o (bufs c.args.frames.now c.args.numbers.now c.args.clean.now c.args.«record».now) true same c.args.page
+    ≡ laid c.load_dirty_page-loaded.result.overlay (bufs c.load_dirty_page-loaded.new.frames c.load_dirty_page-loaded.new.numbers c.load_dirty_page-loaded.new.clean c.args.«record».now) x
 loaded c x d = sym (rw d at c.load_dirty_page-loaded.ensures.0)
 
 -- the page's frame lies in the frames, which are as long as before
-framed : (c : In_default) → (c.load_dirty_page-loaded.result.at * 16384 + 16384 ≤ length (frames' (goal.at.framed c).After-load_dirty_page-loaded)) × (length (frames' (goal.at.framed c).After-load_dirty_page-loaded) < 18446744073709551616)
+framed : (c : In_default) → (c.load_dirty_page-loaded.result.at * 16384 + 16384 ≤ length c.load_dirty_page-loaded.new.frames) × (length c.load_dirty_page-loaded.new.frames < 18446744073709551616)
 framed c =
     let a = c.args in (
       omega (
         arith,
         c.load_dirty_page-loaded.ensures.1,
         c.load_dirty_page-loaded.auto.frames,
-        frame_loaded 16384 8 (omega arith) a.o (lent (goal.at.framed c).Start) c.requires.0 18446744073709551615 a.image a.mem.now a.page _ _ (loaded (goal.at.framed c).After-load_dirty_page-loaded Accepted c.in_default.is),
+        frame_loaded 16384 8 (omega arith) a.o (bufs c.args.frames.now c.args.numbers.now c.args.clean.now c.args.«record».now) c.requires.0 18446744073709551615 a.image a.mem.now a.page _ _ (sym (rw c.in_default.is at c.load_dirty_page-loaded.ensures.0)),
       ),
       omega (arith, c.well_formed, c.load_dirty_page-loaded.auto.frames),
     )
@@ -53,7 +46,7 @@ framed c =
 pub returns-in-Refused : goal.returns-in-Refused
 returns-in-Refused c =
     let a = c.args in
-    sym (refused_alike 16384 8 (omega arith) a.o (lent (goal.at.returns-in-Refused c).Start) c.requires.0 18446744073709551615 a.image a.mem.now a.page _ _ _ _ (loaded (goal.at.returns-in-Refused c).After-load_dirty_page-loaded _ c.in-Refused.is))
+    sym (refused_alike 16384 8 (omega arith) a.o (bufs c.args.frames.now c.args.numbers.now c.args.clean.now c.args.«record».now) c.requires.0 18446744073709551615 a.image a.mem.now a.page _ _ _ _ (loaded (goal.at.returns-in-Refused c).After-load_dirty_page-loaded _ c.in-Refused.is))
 
 pub overflow_mul-start : goal.overflow_mul-start
 overflow_mul-start c = omega (arith, framed (goal.at.overflow_mul-start c).In_default)
@@ -81,12 +74,12 @@ returns c =
     let a = c.args in
     let v' = c.load_dirty_page-loaded.result.overlay in
     let at : ℕ = c.load_dirty_page-loaded.result.at in
-    let f : List ℕ = frames' (goal.at.returns c).After-load_dirty_page-loaded in
+    let f : List ℕ = c.load_dirty_page-loaded.new.frames in
     let n : List ℕ = c.load_dirty_page-loaded.new.numbers in
     let l : List ℕ = c.load_dirty_page-loaded.new.clean in
     let w : List ℕ = a.«record».now in
-    let place : at ≡ place_in a.o (lent (goal.at.returns c).Start) a.page = c.load_dirty_page-loaded.ensures.1 in
-    let back : put_mid (at * 16384 + a.from) (at * 16384 + a.to - (at * 16384 + a.from)) f c.fill.new.dst ≡ overwrite (place_in a.o (lent (goal.at.returns c).Start) a.page * 16384 + a.from) (zeros (a.to - a.from)) f =
-    filled at (place_in a.o (lent (goal.at.returns c).Start) a.page) a.from a.to f c.fill.new.dst place c.requires.1.1.0 (omega (arith, framed (goal.at.returns c).In_default, c.requires)) c.fill.ensures in
+    let place : at ≡ place_in a.o (bufs c.args.frames.now c.args.numbers.now c.args.clean.now c.args.«record».now) a.page = c.load_dirty_page-loaded.ensures.1 in
+    let back : put_mid (at * 16384 + a.from) (at * 16384 + a.to - (at * 16384 + a.from)) f c.fill.new.dst ≡ overwrite (place_in a.o (bufs c.args.frames.now c.args.numbers.now c.args.clean.now c.args.«record».now) a.page * 16384 + a.from) (zeros (a.to - a.from)) f =
+    filled at (place_in a.o (bufs c.args.frames.now c.args.numbers.now c.args.clean.now c.args.«record».now) a.page) a.from a.to f c.fill.new.dst place c.requires.1.1.0 (omega (arith, framed (goal.at.returns c).In_default, c.requires)) c.fill.ensures in
     ap (λ (y : List ℕ). laid v' (bufs y n l w) Accepted) back
-    ∙ sym (touched_blank 16384 8 (omega arith) a.o (lent (goal.at.returns c).Start) c.requires.0 18446744073709551615 a.image a.mem.now a.page a.from a.to c.requires.1.1.0 c.requires.1.1.1 v' f n l w (loaded (goal.at.returns c).After-load_dirty_page-loaded Accepted c.in_default.is))
+    ∙ sym (touched_blank 16384 8 (omega arith) a.o (bufs c.args.frames.now c.args.numbers.now c.args.clean.now c.args.«record».now) c.requires.0 18446744073709551615 a.image a.mem.now a.page a.from a.to c.requires.1.1.0 c.requires.1.1.1 v' f n l w (loaded (goal.at.returns c).After-load_dirty_page-loaded Accepted c.in_default.is))

@@ -1,0 +1,13 @@
+use borrow.Author.Tests.{not-true, not-false}
+use mathlib.Core.Path.{refl}
+use Rattle.store.specs.Blocks.{after_commit}
+use borrow.Author.Rules.{rules}
+use Rattle.blocks.proofs.after_commit.Goals as goal
+
+pub returns-then-not-update : goal.returns-then-not-update
+unfolding after_commit
+returns-then-not-update c = rw (c.if-not-update.true, c.with_image-image.ensures) refl
+
+pub returns : goal.returns
+unfolding after_commit
+returns c = rw (c.if-not-update.false, c.with_numbers.ensures, c.next_number.ensures, c.with_flags-marked.ensures, c.with_marks.ensures, c.is_importing.ensures, c.with_refresh-cleared.ensures, c.with_image-image.ensures) refl

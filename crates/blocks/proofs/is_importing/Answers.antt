@@ -1,0 +1,10 @@
+use mathlib.Core.Path.{ap}
+use native.Mathlib.Nat.{div-one}
+use Prim.Native.Nat.{ℕ, ◌%◌}
+use lib.Dec.{eqb}
+use Rattle.store.specs.Blocks.{importing}
+use Rattle.blocks.proofs.is_importing.Goals as goal
+
+pub returns : goal.returns
+unfolding importing
+returns c = ap (λ (x : ℕ). eqb (x % 2) 1) (div-one c.args.b.flags)

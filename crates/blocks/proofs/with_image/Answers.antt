@@ -1,0 +1,6 @@
+use mathlib.Core.Path.{refl}
+use borrow.Author.Rules.{rules}
+use Rattle.blocks.proofs.with_image.Goals as goal
+
+pub returns : goal.returns
+returns c = rw c.page_count_for_size-pages.ensures refl

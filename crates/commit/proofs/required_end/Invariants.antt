@@ -1,0 +1,18 @@
+use mathlib.Core.Path.{◌≡◌, sym, ap, subst, ◌∙◌}
+use Prim.Native.Nat.{ℕ, ◌+◌, ◌-◌, ◌≤◌}
+use native.Mathlib.Omega.{arith}
+use mathlib.Core.List.{[], ◌∷◌}
+use lib.ListN.{take, drop, get_or}
+use borrow.Author.Rules.{rules}
+use Rattle.config.specs.Pages.{count}
+use Rattle.extents.specs.Plan.{below}
+use Rattle.store.specs.Plan.{required}
+use Rattle.commit.specs.declared.Reach.{Reach}
+use Rattle.commit.specs.Reach.{reach, reach_at, reach_over, at_reach, over_reach, required_least, required_end, turn_over, turn_at}
+use Rattle.commit.proofs.required_end.Given as goal
+
+abbrev pub invariant-loop-i : goal.invariant-loop-i
+invariant-loop-i l = (l.i ≤ l.dirty) × (l.end ≤ 18446744073709551615) × (required 16384 l.base (below (count 16384 l.size) (drop l.i (take l.dirty l.numbers))) l.end ≡ required 16384 l.base (below (count 16384 l.size) (take l.dirty l.numbers)) (l.base + l.size))
+
+abbrev pub decreases-loop-i : goal.decreases-loop-i
+decreases-loop-i l = l.dirty - l.i

@@ -1,0 +1,16 @@
+use mathlib.Core.Path.{◌≡◌, refl, sym, ap, ◌∙◌}
+use mathlib.Core.Logic.{⊎_elim}
+use Prim.Native.Nat.{◌+◌, ◌-◌, ◌*◌, ◌≤◌}
+use native.Mathlib.Omega.{arith}
+use lib.ListN.{length}
+use borrow.Author.Rules.{rules}
+use Rattle.store.specs.Codec.{real_codec}
+use Rattle.commit.specs.CommitSteps.{rest, rest_skip, rest_page, rest_none, rest_all}
+use Rattle.commit.proofs.write_pages.Given as goal
+
+abbrev pub invariant-loop-i : goal.invariant-loop-i
+invariant-loop-i l =
+    (l.i ≤ l.dirty) × (length l.mem ≡ length l.initial.mem) × (rest 16384 65536 8 1024 18446744073709551615 real_codec l.base l.count l.dirty l.numbers l.frames l.i l.mem ≡ rest 16384 65536 8 1024 18446744073709551615 real_codec l.base l.count l.dirty l.numbers l.frames 0 l.initial.mem)
+
+abbrev pub decreases-loop-i : goal.decreases-loop-i
+decreases-loop-i l = l.dirty - l.i
