@@ -1,6 +1,5 @@
 -- `write_pages` meets its contract: a turn writes a page, or leaves memory.
 use mathlib.Core.Path.{◌≡◌, refl, sym, ap, ◌∙◌}
-use mathlib.Core.Logic.{⊎_elim}
 use Prim.Native.Nat.{◌+◌, ◌-◌, ◌*◌, ◌≤◌}
 use native.Mathlib.Omega.{arith}
 use lib.ListN.{length}
@@ -8,24 +7,25 @@ use borrow.Author.Rules.{rules}
 use Rattle.store.specs.Codec.{real_codec}
 use Rattle.commit.specs.CommitSteps.{rest, rest_skip, rest_page, rest_none, rest_all}
 use Rattle.commit.proofs.write_pages.Goals as goal
+use Rattle.commit.proofs.write_pages.Goals.{then-page-count, else-page-count}
 
 pub loop-i-preserved : goal.loop-i-preserved
 loop-i-preserved c =
     let a = c.args in
     let l = c.loop-i in
-    ⊎_elim
-    (λ w. (
-      search rules,
-      ap length w.7 ∙ w.4.kept.0 ∙ l.invariant.1,
-      rest_page 16384 65536 8 1024 18446744073709551615 real_codec a.base a.count a.dirty a.numbers.now a.frames.now c.requires.0 l.i _ _ (l.i * 16384 + 16384 - l.i * 16384) l.mem _ c.loop-i-test.true refl w.0.taken (omega (arith, c.loop-i-test.true, c.requires.1)) w.1.ensures (omega arith) (w.7 ∙ w.4.ensures) ∙ l.invariant.2,
-    ))
-    (λ w. (
-      search rules,
-      ap length w.1 ∙ l.invariant.1,
-      ap (rest 16384 65536 8 1024 18446744073709551615 real_codec a.base a.count a.dirty a.numbers.now a.frames.now (l.i + 1)) w.1
-          ∙ rest_skip 16384 65536 8 1024 18446744073709551615 real_codec a.base a.count a.dirty a.numbers.now a.frames.now c.requires.0 l.i _ l.mem c.loop-i-test.true refl w.0.left ∙ l.invariant.2,
-    ))
-    c.if-page-count.branch
+    elim c.if-page-count.branch [
+      | then-page-count w ↦ (
+        search rules,
+        ap length w.mem-is ∙ w.write.auto.dst ∙ l.invariant.1,
+        rest_page 16384 65536 8 1024 18446744073709551615 real_codec a.base a.count a.dirty a.numbers.now a.frames.now c.requires.0 l.i _ _ (l.i * 16384 + 16384 - l.i * 16384) l.mem _ c.loop-i-test.true refl w.if-page-count.true (omega (arith, c.loop-i-test.true, c.requires.1)) w.page_start-at.ensures (omega arith) (w.mem-is ∙ w.write.ensures) ∙ l.invariant.2,
+      )
+      | else-page-count w ↦ (
+        search rules,
+        ap length w.mem-is ∙ l.invariant.1,
+        ap (rest 16384 65536 8 1024 18446744073709551615 real_codec a.base a.count a.dirty a.numbers.now a.frames.now (l.i + 1)) w.mem-is
+            ∙ rest_skip 16384 65536 8 1024 18446744073709551615 real_codec a.base a.count a.dirty a.numbers.now a.frames.now c.requires.0 l.i _ l.mem c.loop-i-test.true refl w.if-page-count.false ∙ l.invariant.2,
+      )
+    ]
 
 pub returns : goal.returns
 returns c =
