@@ -20,11 +20,11 @@ whole : (c : After-part-n) → length (take c.part-n.result c.loop-at.page) ≡ 
 whole c = length-take c.part-n.result c.loop-at.page ∙ omega (arith, few c, c.loop-at.invariant.0)
 
 -- and goes back to the front of it
-laid : (c : After-page-in-loop-at-1) → length (c.fold_part-sum.new.page ++ drop c.part-n.result c.loop-at.page) ≡ 16384
-laid c =
+laid : (c : After-page-in-loop-at-1) → length (take c.part-n.result c.loop-at.page) ≡ c.part-n.result → c.part-n.result ≤ 16384 → length (c.fold_part-sum.new.page ++ drop c.part-n.result c.loop-at.page) ≡ 16384
+laid c is_whole is_few =
     let x = c.loop-at in
     let n = c.part-n.result in
-    length-append c.fold_part-sum.new.page (drop n x.page) ∙ omega (arith, c.fold_part-sum.auto.page ∙ whole (goal.at.laid c).After-part-n, few (goal.at.laid c).After-part-n, x.invariant.0, length-drop n x.page)
+    length-append c.fold_part-sum.new.page (drop n x.page) ∙ omega (arith, c.fold_part-sum.auto.page ∙ is_whole, is_few, x.invariant.0, length-drop n x.page)
 
 pub overflow_sub-within : goal.overflow_sub-within
 overflow_sub-within c = omega (arith, c.page_offset-within.ensures)
@@ -36,7 +36,7 @@ pub loop-at-preserved : goal.loop-at-preserved
 loop-at-preserved c =
     let x = c.loop-at in
     let a = c.args in (
-      laid c,
+      laid c (whole (goal.at.loop-at-preserved c).After-part-n) (few (goal.at.loop-at-preserved c).After-part-n),
       fold_more 16384 (omega arith) a.image a.mem.now x.at a.end (length (take c.part-n.result x.page)) c.part-n.result x.sum c.fold_part-sum.result (whole (goal.at.loop-at-preserved c).After-part-n)
           (omega (arith, c.part-n.ensures, c.loop-at-test.true)) (omega (arith, c.part-n.ensures, c.page_offset-within.ensures)) c.fold_part-sum.ensures
           ∙ x.invariant.1,

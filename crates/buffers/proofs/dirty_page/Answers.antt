@@ -1,0 +1,55 @@
+-- `overlay::dirty_page` meets its contract: the page is found, and its frame lies in the slice.
+use mathlib.Core.Path.{◌≡◌}
+use Prim.Native.Nat.{ℕ, suc, ◌+◌, ◌-◌, ◌*◌, ◌≤◌, ◌<◌}
+use native.Mathlib.Omega.{arith}
+use mathlib.Core.List.{List, []}
+use lib.Dec.{ltb}
+use lib.ListN.{length, take, drop, length-take}
+use borrow.Author.Tests.{lt-ltb, le-ltb, le-leb, lt-leb}
+use Rattle.memory.specs.Laws.{split}
+use Rattle.update.specs.declared.Overlay.{Overlay}
+use Rattle.update.specs.Pages.{place_of}
+use Rattle.update.specs.Buffers.{dirty_page}
+use borrow.Author.Rules.{rules}
+use Rattle.buffers.proofs.dirty_page.Goals as goal
+
+module _ (P C : ℕ) (v : Overlay) (f n : List ℕ) (q : ℕ) where
+  abbrev ns : List ℕ
+  ns = take v.dirty n
+
+  -- it is not dirty
+  absent : length ns ≤ place_of ns q → ◌≡◌ {A = List ℕ} [] (dirty_page P C v f n q)
+  unfolding dirty_page
+  absent h = rw (le-ltb (place_of ns q) (length ns) h)
+
+  -- its frame is not lent
+  past : length f < suc (place_of ns q) * P → ◌≡◌ {A = List ℕ} [] (dirty_page P C v f n q)
+  unfolding dirty_page
+  past h = split (ltb (place_of ns q) (length ns)) (λ u. rw (u, lt-leb (suc (place_of ns q) * P) (length f) h)) (λ u. rw u)
+
+  shown : place_of ns q < length ns → suc (place_of ns q) * P ≤ length f → take P (drop (place_of ns q * P) f) ≡ dirty_page P C v f n q
+  unfolding dirty_page
+  shown h k = rw (lt-ltb (place_of ns q) (length ns) h, le-leb (suc (place_of ns q) * P) (length f) k)
+
+pub returns-then-dirty-at : goal.returns-then-dirty-at
+returns-then-dirty-at c =
+    let a = c.args in
+    absent 16384 8 a.o a.frames.now a.numbers.now a.page (omega (arith, c.find-at.ensures, length-take a.o.dirty a.numbers.now))
+
+pub returns-then-numbers-at : goal.returns-then-numbers-at
+returns-then-numbers-at c =
+    let a = c.args in
+    absent 16384 8 a.o a.frames.now a.numbers.now a.page (omega (arith, c.find-at.ensures, length-take a.o.dirty a.numbers.now))
+
+pub returns-then-frames-at : goal.returns-then-frames-at
+returns-then-frames-at c =
+    let a = c.args in
+    past 16384 8 a.o a.frames.now a.numbers.now a.page (omega (arith, c.find-at.ensures))
+
+pub returns : goal.returns
+returns c =
+    let a = c.args in
+    let at : ℕ = c.find-at.result in
+    let k : at * 16384 + 16384 - at * 16384 ≡ 16384 = omega arith in
+    let found : at ≡ place_of (take a.o.dirty a.numbers.now) a.page = c.find-at.ensures in
+    rw (k, found) (shown 16384 8 a.o a.frames.now a.numbers.now a.page (omega (arith, length-take a.o.dirty a.numbers.now)) (omega arith))

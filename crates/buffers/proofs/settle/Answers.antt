@@ -1,0 +1,11 @@
+-- `overlay::settle` meets its contract.
+use mathlib.Core.Path.{ap}
+use Rattle.update.specs.declared.CleanCache.{CleanCache}
+use Rattle.update.specs.Laid.{settle}
+use Rattle.update.specs.TouchLaws.{moved}
+use borrow.Author.Rules.{rules}
+use Rattle.buffers.proofs.settle.Goals as goal
+
+pub returns : goal.returns
+unfolding settle
+returns c = let o = c.args.o in ap (λ (x : CleanCache). moved o o.dirty x o.budget) c.settle-cache.ensures
