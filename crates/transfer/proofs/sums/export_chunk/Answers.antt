@@ -17,19 +17,20 @@ use Rattle.update.specs.Image.{image_in}
 use Rattle.store.specs.declared.Answer.TheVariants.{Exported}
 use Rattle.transfer.specs.OnMemory.{lent}
 use borrow.Author.Rules.{rules}
+use mathlib.Core.Bool.{not}
 use Rattle.transfer.proofs.sums.export_chunk.Goals as goal
 
 pub returns-then-not-is_lent : goal.returns-then-not-is_lent
 returns-then-not-is_lent c =
     let a = c.args in
     λ b w. refused_as a.s a.mem.now b w BufferTooShort a.dst.now c.refuse.result _ c.refuse.ensures
-    (short_refused a.s a.mem.now b w (export a.offset a.dst.now) refl (too_short_lem a.s a.mem.now c.is_lent.result c.is_lent.ensures c.if-not-is_lent.true))
+    (short_refused a.s a.mem.now b w (export a.offset a.dst.now) refl (too_short_lem a.s a.mem.now c.is_lent.result c.is_lent.ensures (ap not c.if-not-is_lent.true)))
 
 pub returns-then-s : goal.returns-then-s
 returns-then-s c =
     let a = c.args in
     λ b w. refused_as a.s a.mem.now b w UpdateInProgress a.dst.now c.refuse-then-s.result _ c.refuse-then-s.ensures
-    (updating_refused a.s a.mem.now b w (export a.offset a.dst.now) refl (is_lent a.s a.mem.now c.is_lent.result c.is_lent.ensures c.if-not-is_lent.false) c.if-s.true)
+    (updating_refused a.s a.mem.now b w (export a.offset a.dst.now) refl (is_lent a.s a.mem.now c.is_lent.result c.is_lent.ensures (ap not c.if-not-is_lent.false)) c.if-s.true)
 
 pub slice_bounds-read-end-2 : goal.slice_bounds-read-end-2
 slice_bounds-read-end-2 c = sym (length-take c.below_size-n.result c.args.dst.now ∙ omega (arith, c.below_size-n.ensures))
@@ -47,4 +48,4 @@ returns c =
     let m : length bytes ≡ n = length-tabulate_from a.offset n (image_in 16384 (image_of a.s.block) a.mem.now) in
     let laid : c.read.new.dst ++ drop n a.dst.now ≡ overwrite 0 bytes a.dst.now =
     ap (λ (l : List ℕ). l ++ drop n a.dst.now) (read ∙ sym (take_all n bytes (omega arith))) ∙ overwrite_front n bytes a.dst.now (omega arith) in
-    λ b w. ap (λ (l : List ℕ). out a.s (lent a.mem.now b w) (Exported n) l) laid ∙ sym (idle_acts a.s a.mem.now b w (export a.offset a.dst.now) refl (is_lent a.s a.mem.now c.is_lent.result c.is_lent.ensures c.if-not-is_lent.false) c.if-s.false ∙ export_done a.s a.mem.now b w a.offset n a.dst.now few)
+    λ b w. ap (λ (l : List ℕ). out a.s (lent a.mem.now b w) (Exported n) l) laid ∙ sym (idle_acts a.s a.mem.now b w (export a.offset a.dst.now) refl (is_lent a.s a.mem.now c.is_lent.result c.is_lent.ensures (ap not c.if-not-is_lent.false)) c.if-s.false ∙ export_done a.s a.mem.now b w a.offset n a.dst.now few)
