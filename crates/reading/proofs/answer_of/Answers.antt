@@ -1,0 +1,7 @@
+use mathlib.Core.Path.{sym, ap}
+use Rattle.reading.specs.Views.{read_answer}
+use borrow.Author.Rules.{rules}
+use Rattle.reading.proofs.answer_of.Goals as goal
+
+pub returns-in-Refused : goal.returns-in-Refused
+returns-in-Refused c = sym (ap read_answer c.in-Refused.is)
