@@ -19,6 +19,7 @@ use Rattle.transfer.specs.StoreCases.{refused_as, too_short_lem, is_lent, not_tr
 use Rattle.reading.specs.ReadCases.{read_memory, read_buffers, read_idle, read_updating}
 use borrow.Author.Rules.{rules}
 use mathlib.Core.Bool.{not}
+use borrow.Author.Tests.{not-true, not-false}
 use Rattle.reading.proofs.read_at.Goals as goal
 
 pub returns-then-not-is_lent : goal.returns-then-not-is_lent
@@ -39,12 +40,12 @@ returns-then-not-s c =
     λ w. ap (λ (t : Bool). out a.s (lent a.mem.now (bufs a.frames.now a.numbers.now a.clean.now a.«record».now) w) (Read t) c.read.new.dst) c.is_full-whole.ensures
     ∙ ap (λ (f : List ℕ). out a.s (lent a.mem.now (bufs a.frames.now a.numbers.now a.clean.now a.«record».now) w) (Read (full 16384 65536 8 1024 18446744073709551615 real_codec a.s.block.db_size a.offset (length a.dst.now))) f)
     (c.read.ensures ∙ ap (λ (i : Image). tabulate_from a.offset (length a.dst.now) (image_in 16384 i a.mem.now)) c.image_of-image.ensures)
-    ∙ sym (read_idle a.s a.mem.now (bufs a.frames.now a.numbers.now a.clean.now a.«record».now) w a.offset a.dst.now (is_lent a.s a.mem.now c.is_lent.result c.is_lent.ensures (ap not c.if-not-is_lent.false)) (sym c.are_short.ensures ∙ c.if-are_short.false) c.if-not-s.true)
+    ∙ sym (read_idle a.s a.mem.now (bufs a.frames.now a.numbers.now a.clean.now a.«record».now) w a.offset a.dst.now (is_lent a.s a.mem.now c.is_lent.result c.is_lent.ensures (ap not c.if-not-is_lent.false)) (sym c.are_short.ensures ∙ c.if-are_short.false) (not-true _ c.if-not-s.true))
 
 pub returns : goal.returns
 returns c =
     let a = c.args in
     let x = c.read_at-back in
     λ w. ap (λ (y : Answer). out (working a.s.count.0 a.s.block x.result.overlay) (lent a.mem.now (bufs a.frames.now a.numbers.now x.new.clean a.«record».now) w) y x.new.dst) c.answer_of.ensures
-    ∙ read_updating a.s a.mem.now (bufs a.frames.now a.numbers.now a.clean.now a.«record».now) w a.offset a.dst.now (is_lent a.s a.mem.now c.is_lent.result c.is_lent.ensures (ap not c.if-not-is_lent.false)) (sym c.are_short.ensures ∙ c.if-are_short.false) c.if-not-s.false _
+    ∙ read_updating a.s a.mem.now (bufs a.frames.now a.numbers.now a.clean.now a.«record».now) w a.offset a.dst.now (is_lent a.s a.mem.now c.is_lent.result c.is_lent.ensures (ap not c.if-not-is_lent.false)) (sym c.are_short.ensures ∙ c.if-are_short.false) (not-false _ c.if-not-s.false) _
     (x.ensures ∙ ap (λ (i : Image). read_at 16384 8 i a.mem.now a.s.overlay (bufs a.frames.now a.numbers.now a.clean.now a.«record».now) a.offset a.dst.now) c.image_of-image.ensures)
