@@ -9,8 +9,8 @@ use Rattle.encoding.proofs.state_bytes.encode.Goals as goal
 
 pub returns : goal.returns
 returns c = let s = c.args.s in
-    let bs = parts_bytes s c.args.state.now _ _ _ _ _ _ _ c.numbers.ensures c.flag.ensures w4.before.before.Numbers-of.ensures.0 c.write_words.ensures c.write_words-2.ensures c.write_words-3.ensures c.write_words-4.ensures c.requires in
-    let wide = parts_wide s c.args.state.now _ _ _ _ _ _ _ c.numbers.ensures c.flag.ensures w4.before.before.Numbers-of.ensures.0 c.write_words.ensures c.write_words-2.ensures c.write_words-3.ensures c.write_words-4.ensures in
+    let bs = parts_bytes s c.args.state.now _ _ _ _ _ _ _ c.numbers.ensures c.flag.ensures c.numbers_of.ensures.0 c.write_words.ensures c.write_words-2.ensures c.write_words-3.ensures c.write_words-4.ensures c.requires in
+    let wide = parts_wide s c.args.state.now _ _ _ _ _ _ _ c.numbers.ensures c.flag.ensures c.numbers_of.ensures.0 c.write_words.ensures c.write_words-2.ensures c.write_words-3.ensures c.write_words-4.ensures in
     -- what the types of the block's fields tell
     let block = c.well_formed.0.1.1.1.0.1.1 in
-    (bs, ap state_in bs ∙ state_round s (omega (arith, block.1.0)) (omega (arith, block.1.1.0)) w4.before.before.Numbers-of.ensures.1 wide)
+    (bs, ap state_in bs ∙ state_round s (omega (arith, block.1.0)) (omega (arith, block.1.1.0)) c.numbers_of.ensures.1 wide)
