@@ -17,17 +17,17 @@ pub returns-then-is_importing : goal.returns-then-is_importing
 returns-then-is_importing c =
     let a = c.args in
     λ l. refused_as a.s l.mem l.bufs l.work ImportAlreadyStarted [] c.refuse.result _ c.refuse.ensures
-    (begin_importing a.s l a.limited a.max-pages a.max-bytes (sym c.is_importing.ensures ∙ c.if-is_importing.true))
+    (begin_importing a.s l a.limited a.max_pages a.max_bytes (sym c.is_importing.ensures ∙ c.if-is_importing.true))
 
 pub returns-then-s : goal.returns-then-s
 returns-then-s c =
     let a = c.args in
     λ l. refused_as a.s l.mem l.bufs l.work UpdateBegunTwice [] c.refuse-then-s.result _ c.refuse-then-s.ensures
-    (begin_again a.s l a.limited a.max-pages a.max-bytes (sym c.is_importing.ensures ∙ c.if-is_importing.false) c.if-s.true)
+    (begin_again a.s l a.limited a.max_pages a.max_bytes (sym c.is_importing.ensures ∙ c.if-is_importing.false) c.if-s.true)
 
 pub returns : goal.returns
 returns c =
     let a = c.args in
     λ l. ap (λ (v : Overlay). out (working a.s.count.0 a.s.block v) l (Size a.s.block.db_size) [])
     (c.new.ensures ∙ ap (λ (g : Budget). overlay_of 16384 8 a.s.block.db_size (fresh 16384 a.s.block.db_size g)) c.budget_of-budget.ensures)
-    ∙ sym (begin_done a.s l a.limited a.max-pages a.max-bytes (sym c.is_importing.ensures ∙ c.if-is_importing.false) c.if-s.false)
+    ∙ sym (begin_done a.s l a.limited a.max_pages a.max_bytes (sym c.is_importing.ensures ∙ c.if-is_importing.false) c.if-s.false)
