@@ -1,0 +1,33 @@
+use mathlib.Core.Path.{sym, ◌∙◌}
+use mathlib.Core.List.{[]}
+use Rattle.config.specs.declared.refusal.Refusal.TheVariants.{BufferTooShort}
+use Rattle.update.specs.Laid.{bufs}
+use Rattle.overlay.specs.Calls.{truncate_to}
+use Rattle.transfer.specs.OnMemory.{lent}
+use Rattle.transfer.specs.StoreCases.{refused_as}
+use Rattle.settling.specs.ChangeLaws.{truncate_short, truncate_leaves, truncate_is}
+use borrow.Author.Rules.{rules}
+use Rattle.blob.proofs.changing.truncate.Goals as goal
+
+pub returns-then-any_is_short : goal.returns-then-any_is_short
+returns-then-any_is_short c =
+    let a = c.args in
+    let b = bufs a.frames.now a.numbers.now a.clean.now a.«record».now in
+    refused_as a.s a.mem.now b a.work.now BufferTooShort [] _ _ c.refuse.ensures (sym (truncate_short a.s (lent a.mem.now b a.work.now) (sym c.any_is_short.ensures ∙ c.if-any_is_short.true) a.size))
+
+pub settle-requires : goal.settle-requires
+settle-requires c =
+    let a = c.args in
+    let b = bufs a.frames.now a.numbers.now a.clean.now a.«record».now in
+    let e = c.truncate-resized.ensures ∙ (λ i. truncate_to 16384 8 18446744073709551615 (c.image_of.ensures i) a.mem.now (c.overlay_of.ensures i) b a.size) in
+    truncate_leaves a.s a.mem.now a.work.now b (sym c.any_is_short.ensures ∙ c.if-any_is_short.false) _ _ _ a.size e
+
+pub shape_of-frames : goal.shape_of-frames
+shape_of-frames c = c.settle.auto.frames ∙ c.truncate-resized.auto.frames
+
+pub returns : goal.returns
+returns c =
+    let a = c.args in
+    let b = bufs a.frames.now a.numbers.now a.clean.now a.«record».now in
+    let e = c.truncate-resized.ensures ∙ (λ i. truncate_to 16384 8 18446744073709551615 (c.image_of.ensures i) a.mem.now (c.overlay_of.ensures i) b a.size) in
+    c.settle.ensures ∙ truncate_is a.s a.mem.now a.work.now b (sym c.any_is_short.ensures ∙ c.if-any_is_short.false) _ _ _ a.size e

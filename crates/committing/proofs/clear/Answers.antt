@@ -1,0 +1,8 @@
+-- `committing::clear` meets its contract.
+use mathlib.Core.List.{[]}
+use Rattle.transfer.specs.OnMemory.{lent}
+use borrow.Author.Rules.{rules}
+use Rattle.committing.proofs.clear.Goals as goal
+
+pub returns : goal.returns
+returns c = λ k. lent [] (c.wipe.ensures k) (c.fill_numbers.ensures k)
