@@ -1,9 +1,7 @@
 -- What the code's answers say: a value, and the text from the place behind it.
 use Rattle.std.specs.Prelude.{List, ℕ}
 use Rattle.decimal.specs.declared.read.Place.{Place}
-use Rattle.decimal.specs.declared.read.Place.TheVariants as Place·variants
 use Rattle.decimal.specs.declared.read.Numeral.{Numeral}
-use Rattle.decimal.specs.declared.read.Numeral.TheVariants as Numeral·variants
 use Rattle.decimal.specs.Text.{Got, got, wrong, from}
 
 abbrev pub place_in : List ℕ → Place → Got (Unit {0})
