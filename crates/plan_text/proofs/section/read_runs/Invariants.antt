@@ -1,0 +1,14 @@
+use mathlib.Core.Path.{◌≡◌}
+use Prim.Native.Nat.{◌-◌, ◌/◌, ◌≤◌}
+use lib.ListN.{length}
+use Rattle.decimal.specs.Text.{from}
+use Rattle.plan_text.specs.Parse.{section}
+use Rattle.plan_line.specs.Readers.{read_run}
+use Rattle.plan_text.specs.Fill.{fill_runs}
+use Rattle.plan_text.proofs.section.read_runs.Given as goal
+
+abbrev pub invariant-loop-value : goal.invariant-loop-value
+invariant-loop-value l = (l.count ≤ length l.initial.out / 2) × (length l.out ≡ length l.initial.out) × (fill_runs l.count (section read_run l.key (length l.initial.out / 2 - l.count) (from l.text l.here)) l.out ≡ fill_runs 0 (section read_run l.key (length l.initial.out / 2) (from l.text l.at)) l.initial.out)
+
+abbrev pub decreases-loop-value : goal.decreases-loop-value
+decreases-loop-value l = length l.initial.out / 2 - l.count
