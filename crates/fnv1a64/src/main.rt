@@ -1,25 +1,59 @@
 // Prints the 64-bit FNV-1a hash of each line of standard input, of which it reads 65,536 bytes at most.
 #![tactic(auto)]
 
-use libc::{STDIN_FILENO, STDOUT_FILENO};
+ghost use Rattle.std.specs.Prelude.{◌≤◌, length, IfOk};
 
-fn print_hash(line: &[u8]) {
-    io::print_hex(STDOUT_FILENO, meta::fnv1a64(line), 16);
-    io::write_all(STDOUT_FILENO, b"\n");
+use std::io::{self, Read};
+
+fn print_hash(rt: &impl Print, line: &[u8]) -> io::Result<()> {
+    let hash = meta::fnv1a64(line);
+    println!(rt; "{hash:016x}")
+}
+
+// Where the line that begins at `from` ends.
+fn line_end(text: &[u8], from: usize) -> usize
+    requires { from ≤ length text.now }
+    ensures start { from ≤ result }
+    ensures end { result ≤ length text.now }
+{
+    let mut at = from;
+    while at < text.len() {
+        if text[at] == b'\n' {
+            return at;
+        }
+        at += 1;
+    }
+    at
 }
 
 // A line ends at a line feed, or where the text does.
-fn print_hashes(text: &[u8]) {
+fn print_hashes(rt: &impl Print, text: &[u8]) -> io::Result<()> {
     let mut from: usize = 0;
     while from < text.len() {
-        let end = bytes::scan::find(text, from, text.len(), b'\n');
-        print_hash(&text[from..end]);
+        let end = line_end(text, from);
+        print_hash(rt, &text[from..end])?;
         from = end + 1;
     }
+    Ok(())
 }
 
-fn main() {
-    let mut buffer = io::large_buffer();
-    let n = io::read_full(STDIN_FILENO, &mut buffer);
-    print_hashes(&buffer[..n]);
+// Reads until the buffer is full or the input ends, and answers how many bytes there were.
+fn read_full<R: Read>(input: &mut R, buffer: &mut [u8]) -> io::Result<usize>
+    ensures { IfOk result (λ n. n ≤ length buffer.new) }
+{
+    let mut n: usize = 0;
+    while n < buffer.len() {
+        let more = input.read(&mut buffer[n..])?;
+        if more == 0 {
+            return Ok(n);
+        }
+        n += more;
+    }
+    Ok(n)
+}
+
+fn main(rt: HostRuntime) -> io::Result<()> {
+    let mut buffer = [0u8; 65_536];
+    let n = read_full(&mut rt.stdin(), &mut buffer)?;
+    print_hashes(&rt, &buffer[..n])
 }
