@@ -1,13 +1,13 @@
 // Reads what a commit is to do to the zero runs of an image, and prints the runs after it.
 #![tactic(auto)]
 
-ghost use Rattle.std.specs.Prelude.{◌≡◌, ◌≤◌, length};
+ghost use Rattle.std.specs.Prelude.{◌≡◌, ◌≤◌, length, IfOk};
 ghost use Rattle.decimal.specs.Write.{written, write};
 ghost use Rattle.zeroplan.specs.Reply.{reply};
 
 use extents::Planned;
-use libc::{STDIN_FILENO, STDOUT_FILENO};
 use plan_text::{Answer, Parsed};
+use std::io::{self, Read};
 
 fn runs_buffer() -> [u64; plan_text::MOST_RUN_NUMBERS]
     ensures { length result ≡ 2048 }
@@ -75,10 +75,25 @@ fn respond(text: &[u8], out: &mut [u8]) -> usize
     plan_text::print(out, Answer::Accepted(pages.0), &work[..used])
 }
 
-fn main() {
+// Reads until the buffer is full or the input ends, and answers how many bytes there were.
+fn read_full<R: Read>(input: &mut R, buffer: &mut [u8]) -> io::Result<usize>
+    ensures { IfOk result (λ n. n ≤ length buffer.new) }
+{
+    let mut n: usize = 0;
+    while n < buffer.len() {
+        let more = input.read(&mut buffer[n..])?;
+        if more == 0 {
+            return Ok(n);
+        }
+        n += more;
+    }
+    Ok(n)
+}
+
+fn main(rt: HostRuntime) -> io::Result<()> {
     let mut text = text_buffer();
-    let n = io::read_full(STDIN_FILENO, &mut text);
+    let n = read_full(&mut rt.stdin(), &mut text)?;
     let mut out = reply_buffer();
     let k = respond(&text[..n], &mut out);
-    io::write_all(STDOUT_FILENO, &out[..k]);
+    rt.write_all(&out[..k])
 }

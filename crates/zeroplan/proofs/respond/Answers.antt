@@ -1,0 +1,92 @@
+-- `zeroplan::respond` meets its contract: what was read is planned, and what was planned is printed.
+use Rattle.std.proofs.Common.{◌≡◌, ℕ, ◌*◌, ◌≤◌, List, [], length, take, length-take, sym, ap, ◌∙◌, arith}
+use Rattle.extents.specs.declared.Planned.{Planned}
+use Rattle.extents.specs.declared.Planned.TheVariants.{Runs}
+use Rattle.config.specs.Pages.{count}
+use Rattle.meta.specs.declared.ZeroExtent.{ZeroExtent}
+use Rattle.meta.specs.Runs.{runs_of}
+use Rattle.runs.specs.Flat.{runs_in}
+use Rattle.extents.specs.Plan.{plan, too_many}
+use Rattle.extents.specs.PlanLaws.{plan_most}
+use Rattle.extents.specs.Outcome.{outcome, planned}
+use Rattle.zeroplan.specs.ReplyLaws.{too_many_runs, enough, Kept, runs_shown, reply_extents, reply_runs, Said, said, unread}
+use Rattle.decimal.specs.Write.{write}
+use Rattle.plan_report.specs.declared.Answer.{Answer}
+use Rattle.plan_report.specs.Answers.{report}
+use Rattle.plan_report.specs.Print.{printed, printed_room}
+use Rattle.plan_text.specs.declared.Parsed.{Parsed}
+use Rattle.plan_text.specs.Parse.{parse}
+use Rattle.plan_text.specs.Fill.{filled_by, outcome as read}
+use Rattle.zeroplan.specs.Reply.{reply}
+use Rattle.zeroplan.proofs.respond.Goals as goal
+
+-- what was planned for what an accepted text says
+plans : {t : List ℕ} {old new n k j m : ℕ} {e r d w : List ℕ} {p : Planned} (x : Said t old new n k j e r d) → m ≡ 6146
+    → outcome p w ≡ planned m (plan 16384 1024 old new (runs_in n e) (runs_in k r) (take j d))
+    → outcome p w ≡ planned 6146 (plan 16384 1024 x.input.old x.input.new x.input.extents x.input.records x.input.dirty)
+plans x h q = q ∙ (λ s. planned (h s) (plan 16384 1024 (x.old_is s) (x.new_is s) (x.extents s) (x.records s) (x.dirty s)))
+
+-- and the runs that are kept
+record Found (t : List ℕ) (old new n k j c : ℕ) (e r d w : List ℕ) : Type 0 where
+  says : Said t old new n k j e r d
+  keeps : Kept 6146 c w (plan 16384 1024 says.input.old says.input.new says.input.extents says.input.records says.input.dirty)
+  few : c ≤ 1024
+
+module _ (t : List ℕ) (old new n k j c m : ℕ) (e r d e₀ r₀ d₀ w : List ℕ) where
+  found : length e₀ ≡ 2048 → length r₀ ≡ 2048 → length d₀ ≡ 1024 → m ≡ 6146
+      → read (Parsed.Accepted old new n k j) e r d ≡ filled_by (parse t) e₀ r₀ d₀
+      → outcome (Runs c) w ≡ planned m (plan 16384 1024 old new (runs_in n e) (runs_in k r) (take j d))
+      → Found t old new n k j c e r d w
+  found le lr ld h q p =
+      let x : Said t old new n k j e r d = said t old new n k j e r d e₀ r₀ d₀ le lr ld q in
+      let i = x.input in
+      let l : Kept 6146 c w (plan 16384 1024 i.old i.new i.extents i.records i.dirty) = enough 6146 c w _ (plans x h p) in
+      record { says = x; keeps = l; few = omega (arith, l.count, plan_most 16384 1024 i.old i.new i.extents i.records i.dirty l.runs l.answer) }
+
+pub returns-in_default : goal.returns-in_default
+returns-in_default c =
+    let out = c.args.out.now in
+    let u : reply c.args.text.now ≡ report Answer.Malformed [] = unread c.args.text.now _ _ _ _ _ _ (rw c.in_default.is at c.parse-parsed.ensures) in
+    c.print.ensures ∙ printed_room Answer.Malformed [] out (omega arith) ∙ ap (λ (t : List ℕ). write 0 t out) (sym u)
+
+pub plan_numbers-planned-requires : goal.plan_numbers-planned-requires
+plan_numbers-planned-requires c =
+    let x = said _ _ _ _ _ _ _ _ _ _ _ _ c.runs_buffer-image.ensures c.runs_buffer-record.ensures c.pages_buffer-numbers.ensures c.in-Accepted.ensures in
+    (x.few, omega (arith, x.pages, c.work_list-work.ensures))
+
+pub returns-in_default-planned : goal.returns-in_default-planned
+returns-in_default-planned c =
+    let x = said _ _ _ _ _ _ _ _ _ _ _ _ c.runs_buffer-image.ensures c.runs_buffer-record.ensures c.pages_buffer-numbers.ensures c.in-Accepted.ensures in
+    let out = c.args.out.now in
+    let t : plan 16384 1024 x.input.old x.input.new x.input.extents x.input.records x.input.dirty ≡ too_many =
+    too_many_runs 6146 _ c.plan_numbers-planned.new.work _ (plans x c.work_list-work.ensures c.in_default-planned.ensures) in
+    c.print-in_default-planned.ensures ∙ printed_room Answer.Extents [] out (omega arith)
+    ∙ ap (λ (l : List ℕ). write 0 l out) (sym (reply_extents c.args.text.now x.input x.reply_is t))
+
+pub overflow_mul-used : goal.overflow_mul-used
+overflow_mul-used c =
+    let y = found _ _ _ _ _ _ _ _ _ _ _ _ _ _ _ c.runs_buffer-image.ensures c.runs_buffer-record.ensures c.pages_buffer-numbers.ensures c.work_list-work.ensures c.in-Accepted.ensures c.in-Runs.ensures in
+    omega (arith, y.few)
+
+pub slice_bounds-work-end-2 : goal.slice_bounds-work-end-2
+slice_bounds-work-end-2 c =
+    let y = found _ _ _ _ _ _ _ _ _ _ _ _ _ _ _ c.runs_buffer-image.ensures c.runs_buffer-record.ensures c.pages_buffer-numbers.ensures c.work_list-work.ensures c.in-Accepted.ensures c.in-Runs.ensures in
+    omega (arith, y.few, c.plan_numbers-planned.auto.work, c.work_list-work.ensures)
+
+pub slice_bounds-print-end-2 : goal.slice_bounds-print-end-2
+slice_bounds-print-end-2 c =
+    let y = found _ _ _ _ _ _ _ _ _ _ _ _ _ _ _ c.runs_buffer-image.ensures c.runs_buffer-record.ensures c.pages_buffer-numbers.ensures c.work_list-work.ensures c.in-Accepted.ensures c.in-Runs.ensures in
+    simp length-take (omega (arith, y.few, c.plan_numbers-planned.auto.work, c.work_list-work.ensures))
+
+pub returns : goal.returns
+returns c =
+    let y = found _ _ _ _ _ _ _ _ _ _ _ _ _ _ _ c.runs_buffer-image.ensures c.runs_buffer-record.ensures c.pages_buffer-numbers.ensures c.work_list-work.ensures c.in-Accepted.ensures c.in-Runs.ensures in
+    let x = y.says in
+    let out = c.args.out.now in
+    let l : List ZeroExtent = y.keeps.runs in
+    let shown : runs_of (take (c.in-Runs.count * 2) c.plan_numbers-planned.new.work) ≡ l = (λ i. runs_of (take (y.keeps.count i * 2) (y.keeps.list i))) ∙ runs_shown 6146 l in
+    let pages : c.page_count_for_size-pages.result.0 ≡ count 16384 x.input.new = c.page_count_for_size-pages.ensures ∙ ap (count 16384) x.new_is in
+    c.print-2.ensures
+    ∙ (λ i. printed (Answer.Accepted (pages i)) (shown i) out)
+    ∙ printed_room (Answer.Accepted (count 16384 x.input.new)) l out (omega (arith, c.requires, y.few, y.keeps.count))
+    ∙ ap (λ (z : List ℕ). write 0 z out) (sym (reply_runs c.args.text.now x.input x.reply_is l y.keeps.answer))
