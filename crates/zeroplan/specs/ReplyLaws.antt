@@ -102,10 +102,10 @@ unread t e r d e₀ r₀ d₀ q = ap (λ (p : Parsed). by_reading p (parse t)) (
 
 -- ## What the plan answered
 
-pub too_many_runs : (n : ℕ) (r : Refusal) (w : List ℕ) (a : Planned) → outcome (Refused r) w ≡ planned n a → a ≡ too_many
+pub too_many_lem : (n : ℕ) (r : Refusal) (w : List ℕ) (a : Planned) → outcome (Refused r) w ≡ planned n a → a ≡ too_many
 unfolding planned
-too_many_runs n r w too_many q = refl
-too_many_runs n r w (kept l) q = let p = ap (λ (x : Outcome). x.answer) q in let z : ◌≡◌ {A = ℕ} 0 1 = cc in absurd (omega arith)
+too_many_lem n r w too_many q = refl
+too_many_lem n r w (kept l) q = let p = ap (λ (x : Outcome). x.answer) q in let z : ◌≡◌ {A = ℕ} 0 1 = cc in absurd (omega arith)
 
 -- c runs, in front of the list
 pub record Kept (n c : ℕ) (w : List ℕ) (a : Planned) : Type 0 where

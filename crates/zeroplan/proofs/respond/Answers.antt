@@ -9,7 +9,7 @@ use Rattle.runs.specs.Flat.{runs_in}
 use Rattle.extents.specs.Plan.{plan, too_many}
 use Rattle.extents.specs.PlanLaws.{plan_most}
 use Rattle.extents.specs.Outcome.{outcome, planned}
-use Rattle.zeroplan.specs.ReplyLaws.{too_many_runs, enough, Kept, runs_shown, reply_extents, reply_runs, Said, said, unread}
+use Rattle.zeroplan.specs.ReplyLaws.{too_many_lem, enough, Kept, runs_shown, reply_extents, reply_runs, Said, said, unread}
 use Rattle.decimal.specs.Write.{write}
 use Rattle.plan_report.specs.declared.Answer.{Answer}
 use Rattle.plan_report.specs.Answers.{report}
@@ -59,7 +59,7 @@ returns-in_default-planned c =
     let x = said _ _ _ _ _ _ _ _ _ _ _ _ c.runs_buffer-image.ensures c.runs_buffer-record.ensures c.pages_buffer-numbers.ensures c.in-Accepted.ensures in
     let out = c.args.out.now in
     let t : plan 16384 1024 x.input.old x.input.new x.input.extents x.input.records x.input.dirty ≡ too_many =
-    too_many_runs 6146 _ c.plan_numbers-planned.new.work _ (plans x c.work_list-work.ensures c.in_default-planned.ensures) in
+    too_many_lem 6146 _ c.plan_numbers-planned.new.work _ (plans x c.work_list-work.ensures c.in_default-planned.ensures) in
     c.print-in_default-planned.ensures ∙ printed_room Answer.Extents [] out (omega arith)
     ∙ ap (λ (l : List ℕ). write 0 l out) (sym (reply_extents c.args.text.now x.input x.reply_is t))
 
