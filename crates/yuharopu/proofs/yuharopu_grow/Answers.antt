@@ -16,16 +16,14 @@ returns-then-pages-lt2 c = simp (lt-ltb _ _ c.if-pages-lt2.true)
 
 pub returns-in-Grown : goal.returns-in-Grown
 returns-in-Grown c = let s = c.args in
-    let a = c.after-1.given in
     ap (grew 0 c.grow.new.mem) c.copy_numbers.ensures
-    ∙ ap (λ (x : Growth). growth_shown s.count c.grow.new.mem x s.pages.now) (sym a.1)
+    ∙ ap (λ (x : Growth). growth_shown s.count c.grow.new.mem x s.pages.now) (sym c.in-Grown.is)
     ∙ grow_shown s.mem.now s.count s.end s.pages.now (outcome c.grow.result c.grow.new.mem) c.if-pages-lt2.false c.grow.ensures
 
 pub returns-in-Refused : goal.returns-in-Refused
 returns-in-Refused c = let s = c.args in
-    let a = c.refusal-1.given in
     let n = c.numbers-n in
     ap (grew n.result.number c.grow.new.mem) c.copy_numbers-in-Refused.ensures
     ∙ ap (λ (x : Numbers). grew x.number c.grow.new.mem (overwrite 0 (x.first ∷ x.second ∷ []) s.pages.now)) n.ensures
-    ∙ ap (λ (x : Growth). growth_shown s.count c.grow.new.mem x s.pages.now) (sym a.1)
+    ∙ ap (λ (x : Growth). growth_shown s.count c.grow.new.mem x s.pages.now) (sym c.in-Refused.is)
     ∙ grow_shown s.mem.now s.count s.end s.pages.now (outcome c.grow.result c.grow.new.mem) c.if-pages-lt2.false c.grow.ensures

@@ -24,10 +24,9 @@ returns-then-work-pages c = simp (le-ltb _ _ c.if-answer-lt1.false, le-ltb _ _ c
 pub returns-in-Runs : goal.returns-in-Runs
 unfolding planned
 returns-in-Runs c = let s = c.args in
-    let n = c.count-1.given in
     let w = c.plan_numbers.new.work in
-    ap (plans 0 w) (set_overwrite 0 n.0.0 s.answer.now c.if-answer-lt1.false)
-    ∙ ap (λ (x : Planned). plan_shown w x s.answer.now) (sym n.1)
+    ap (plans 0 w) (set_overwrite 0 c.in-Runs.count s.answer.now c.if-answer-lt1.false)
+    ∙ ap (λ (x : Planned). plan_shown w x s.answer.now) (sym c.in-Runs.is)
     ∙ plan_shown_lem s.work.now s.extents.now s.old_size s.new_size s.«record».now s.dirty.now s.answer.now (outcome c.plan_numbers.result w)
     c.if-answer-lt1.false c.if-image.false c.if-work-pages.false c.plan_numbers.ensures
 

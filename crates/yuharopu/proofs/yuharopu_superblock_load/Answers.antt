@@ -26,19 +26,17 @@ returns-then-fields-lt-NUMBERS c = simp (le-ltb _ _ c.if-block-lt-ENCODED_LEN.fa
 
 pub returns-in-Block : goal.returns-in-Block
 returns-in-Block c = let s = c.args in
-    let b = c.b-1.given in
-    let e : c.copy_numbers.new.dst ≡ overwrite 0 (numbers_of b.0.0) s.fields.now =
+    let e : c.copy_numbers.new.dst ≡ overwrite 0 (numbers_of c.in-Block.b) s.fields.now =
     c.copy_numbers.ensures ∙ ap (λ (n : List ℕ). overwrite 0 n s.fields.now) c.numbers-numbers.ensures in
-    ap (answer 0) e ∙ ap (λ (x : Loaded). shown x s.fields.now) (sym b.1)
+    ap (answer 0) e ∙ ap (λ (x : Loaded). shown x s.fields.now) (sym c.in-Block.is)
     ∙ load_shown s.block.now s.fields.now c.load.result c.if-block-lt-ENCODED_LEN.false c.if-fields-lt-NUMBERS.false c.load.ensures
 
 pub returns-in-Refused : goal.returns-in-Refused
 returns-in-Refused c = let s = c.args in
-    let r = c.refusal-1.given in
     let n = c.numbers-n in
     let e : c.copy_numbers-in-Refused.new.dst ≡ overwrite 0 (n.result.first ∷ zeros 20) s.fields.now =
     c.copy_numbers-in-Refused.ensures ∙ ap (λ (x : List ℕ). overwrite 0 x s.fields.now) (padded n.result.first) in
     ap (answer n.result.number) e
     ∙ ap (λ (x : Numbers). answer x.number (overwrite 0 (x.first ∷ zeros 20) s.fields.now)) n.ensures
-    ∙ ap (λ (x : Loaded). shown x s.fields.now) (sym r.1)
+    ∙ ap (λ (x : Loaded). shown x s.fields.now) (sym c.in-Refused.is)
     ∙ load_shown s.block.now s.fields.now c.load.result c.if-block-lt-ENCODED_LEN.false c.if-fields-lt-NUMBERS.false c.load.ensures
