@@ -1,4 +1,4 @@
-//! Links the static library that `rt staticlib yuharopu` writes.
+//! Links the static library that `tools/staticlib` writes.
 
 use std::env;
 use std::path::PathBuf;
@@ -13,7 +13,7 @@ fn main() {
     println!("cargo::rerun-if-changed={}", archive.display());
     if !archive.is_file() {
         println!(
-            "cargo::error={} is missing: run `rt staticlib yuharopu` first",
+            "cargo::error={} is missing: run `tools/staticlib` first",
             archive.display()
         );
         return;

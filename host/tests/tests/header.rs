@@ -1,4 +1,4 @@
-//! The parameters of each C function: the same in the header, in the Rust that calls it and in the crate that defines it.
+//! The parameters of each C function: the same in the header, in the Rust that calls it, in the crate that defines it and in the one that exports it.
 
 use std::collections::BTreeMap;
 use std::path::{Path, PathBuf};
@@ -66,8 +66,7 @@ fn in_rust() {
     assert_eq!(declared, in_header());
 }
 
-#[test]
-fn in_the_crate() {
+fn in_crate(name: &str) -> Functions {
     let types: [(&str, &[&str]); 5] = [
         (": &[u8]", &["bytes", "length"]),
         (": &[u64]", &["numbers", "length"]),
@@ -75,12 +74,18 @@ fn in_the_crate() {
         (": &mut [u64]", &["mut numbers", "length"]),
         (": u64", &["number"]),
     ];
-    let folder = project().join("crates/yuharopu/src");
+    let folder = project().join("crates").join(name).join("src");
     let files = std::fs::read_dir(folder).expect("the crate's files");
     let mut defined = Functions::new();
     for file in files {
         let text = std::fs::read_to_string(file.expect("a file").path()).expect("a text");
         defined.extend(functions(&text, &types));
     }
-    assert_eq!(defined, in_header());
+    defined
+}
+
+#[test]
+fn in_the_crates() {
+    assert_eq!(in_crate("yuharopu"), in_header());
+    assert_eq!(in_crate("yuharopu_c"), in_header());
 }

@@ -21,12 +21,12 @@ const SIZES: &str = "old_size=0\nnew_size=0\n";
 const NOTHING: &str = "result=accepted\npages=0\nextents=0\n";
 
 fn program() -> PathBuf {
-    let built = || PathBuf::from(env!("CARGO_MANIFEST_DIR")).join("../../target/bin");
+    let built = || PathBuf::from(env!("CARGO_MANIFEST_DIR")).join("../../crates/zeroplan/out");
     let folder = std::env::var_os(FOLDER_VARIABLE).map_or_else(built, PathBuf::from);
     let path = folder.join("zeroplan");
     assert!(
         path.is_file(),
-        "{} is missing: run `rt check` first, or name its folder in {FOLDER_VARIABLE}",
+        "{} is missing: run `./run` first, or name its folder in {FOLDER_VARIABLE}",
         path.display()
     );
     path
