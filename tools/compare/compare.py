@@ -26,13 +26,11 @@ KEPT_SCENES = ("unmerged_record", "far_dirty", "left_in_old_page", "left_in_new_
 
 
 def copy_repository(to):
-    """The crates that are compared, and what was proved of them before."""
+    """The crates that are compared; what rt check kept of them in the checkout, its checks here begin with."""
     lines = [l for l in (ROOT / "crates.txt").read_text().splitlines() if l.split(":")[0] in DEPS.split()]
     (to / "crates.txt").write_text("\n".join(lines) + f"\ntrial: {DEPS}\n")
     for name in DEPS.split():
-        shutil.copytree(ROOT / "crates" / name, to / "crates" / name)
-    if (ROOT / "target").is_dir():
-        shutil.copytree(ROOT / "target", to / "target", symlinks=True)
+        shutil.copytree(ROOT / "crates" / name, to / "crates" / name, ignore=shutil.ignore_patterns("out"))
 
 
 def write_crate(folder, crate, groups, about):
@@ -40,7 +38,7 @@ def write_crate(folder, crate, groups, about):
     shutil.rmtree(folder / "crates" / crate, ignore_errors=True)
     specs.mkdir(parents=True)
     (specs.parent / "src").mkdir()
-    (specs.parent / "src" / "lib.rt").write_text("// Calls of the store, compared with a model. They are theorems, in specs/; there is no code here.\n")
+    (specs.parent / "src" / "lib.rt").write_text("// Calls of the store, compared with a model. They are theorems, in specs/; there is no code here.\n#![tactic(auto)]\n\n")
     (specs / "Shapes.antt").write_text(theorems.SHAPES)
     modules = ["Shapes"]
     for first in range(0, len(groups), BATCH):
@@ -52,8 +50,7 @@ def write_crate(folder, crate, groups, about):
 
 def prove(folder):
     """Whether all is proved, and what the prover wrote."""
-    env = {**os.environ, "RT_CUT": "600"}
-    done = subprocess.run(["rt", "check", "trial"], cwd=folder, env=env, capture_output=True, text=True)
+    done = subprocess.run(["rt", "check"], cwd=folder / "crates" / "trial", capture_output=True, text=True)
     return done.returncode == 0, done.stdout + done.stderr
 
 
@@ -104,24 +101,24 @@ def group_of(entry):
 
 def works_out_the_checksum(entry):
     """An image with 01's superblock that passes all tests."""
-    return entry["codec"].name == "realCodec" and ending(entry) == ("open", "accepted") and entry["count"] > 0
+    return entry["codec"].name == "real_codec" and ending(entry) == ("open", "accepted") and entry["count"] > 0
 
 
 def closes_an_import(entry):
-    return entry["codec"].name == "realCodec" and ending(entry) == ("open", "import closed")
+    return entry["codec"].name == "real_codec" and ending(entry) == ("open", "import closed")
 
 
 def kept():
     """The calls that stay in the repository: some scenes whole, the shortest call of each kind and ending, and the shortest openings
     that work out a checksum and that store one anew."""
     pool = [e for which in "abcr" for e in Lists(KEPT_SEED, which).run(KEPT_CALLS)]
-    calls = [e for e in pool if e["tag"] in KEPT_SCENES and (e["par"], e["codec"].name) == (SETS["b"][0], "smallCodec")]
+    calls = [e for e in pool if e["tag"] in KEPT_SCENES and (e["par"], e["codec"].name) == (SETS["b"][0], "small_codec")]
     by_length = sorted(pool, key=lambda e: len(theorems.statement(e)))
     shortest = {}
     for e in by_length:
         shortest.setdefault(ending(e), e)
     seen = {ending(e) for e in calls}
-    calls += sorted((e for end, e in shortest.items() if end not in seen), key=lambda e: (e["codec"].name == "realCodec", ending(e)))
+    calls += sorted((e for end, e in shortest.items() if end not in seen), key=lambda e: (e["codec"].name == "real_codec", ending(e)))
     calls += [next(e for e in by_length if asked(e)) for asked in (works_out_the_checksum, closes_an_import)]
     for e in calls:
         e["note"] = ": ".join(ending(e)) + (f" ({e['tag'].replace('_', ' ')})" if e["tag"] in KEPT_SCENES else "")

@@ -247,20 +247,20 @@ class Lists:
 
     def next_kind(self):
         s = self.state
-        always = [("fileSize", 1), ("export", 3), ("checksum", 2), ("refresh", 2), ("importFinish", 2), ("importCancel", 1)]
+        always = [("file_size", 1), ("export", 3), ("checksum", 2), ("refresh", 2), ("import_finish", 2), ("import_cancel", 1)]
         if s.updating and self.last_refused and self.chance(50):
             return self.rnd.choice(("truncate", "truncate", "read", "commit"))
         if s.updating:
-            return self.weighted(always + THEMES[self.theme] + [("importBegin", 1), ("importChunk", 1), ("refreshStep", 2)])
+            return self.weighted(always + THEMES[self.theme] + [("import_begin", 1), ("import_chunk", 1), ("refresh_step", 2)])
         if s.block["flags"] & IMPORTING:
             if s.block["import_written_until"] == s.block["import_total_size"] and self.chance(50):
-                return "importFinish"
-            return self.weighted(always + [("importChunk", 40), ("importFinish", 14), ("importCancel", 4), ("importBegin", 2), ("begin", 3),
-                                           ("refreshStep", 2), ("write", 14), ("truncate", 8), ("read", 5), ("commit", 1), ("rollback", 1)])
+                return "import_finish"
+            return self.weighted(always + [("import_chunk", 40), ("import_finish", 14), ("import_cancel", 4), ("import_begin", 2), ("begin", 3),
+                                           ("refresh_step", 2), ("write", 14), ("truncate", 8), ("read", 5), ("commit", 1), ("rollback", 1)])
         if s.block["flags"] & REFRESHING and self.chance(50):
-            return self.rnd.choice(("refreshStep", "refreshStep", "write", "truncate"))
+            return self.rnd.choice(("refresh_step", "refresh_step", "write", "truncate"))
         return self.weighted(always + [("begin", 34), ("write", 18), ("truncate", 14), ("read", 10), ("commit", 2), ("rollback", 2),
-                                       ("importBegin", 8), ("importChunk", 1), ("refreshStep", 12)])
+                                       ("import_begin", 8), ("import_chunk", 1), ("refresh_step", 12)])
 
     def arguments(self, kind):
         r, p = self.rnd, self.par
@@ -274,11 +274,11 @@ class Lists:
             return self.offset(), self.written()
         if kind == "truncate":
             return (self.offset(),)
-        if kind == "importBegin":
+        if kind == "import_begin":
             return self.import_plan()
-        if kind == "importChunk":
+        if kind == "import_chunk":
             return self.chunk()
-        if kind == "refreshStep":
+        if kind == "refresh_step":
             return (r.choice((0, 1, 2, p.P, 2 * p.P, 3 * p.P + 1, 50, p.M)),)
         return ()
 

@@ -117,7 +117,7 @@ def is_normalized(runs):
 
 class SmallCodec:
     """The test codec of crates/store/specs/Small.antt: one element of memory for each field and number, at most 3 runs."""
-    name, seed, head, page_field, most = "smallCodec", 1, 18, 2, 3
+    name, seed, head, page_field, most = "small_codec", 1, 18, 2, 3
     magic = None
 
     def hash(self, h, values):
@@ -167,7 +167,7 @@ def le(n, width):
 
 class RealCodec:
     """01's superblock: magic at 0, version at 8, page size at 12, eighteen fields of 8 bytes from 16, runs of 16 bytes from 160."""
-    name, seed, head, page_field, most = "realCodec", 0xCBF29CE484222325, 160, 16384, 1024
+    name, seed, head, page_field, most = "real_codec", 0xCBF29CE484222325, 160, 16384, 1024
     magic = list(b"ICSQLITE")
 
     def hash(self, h, values):
@@ -380,9 +380,9 @@ class Update:
         return values
 
 
-MEMORY_ONLY = "importBegin importChunk importFinish importCancel export checksum refresh refreshStep".split()
+MEMORY_ONLY = "import_begin import_chunk import_finish import_cancel export checksum refresh refresh_step".split()
 LENT = {
-    "begin": "", "fileSize": "", "read": "mb", "write": "mbw", "truncate": "mbw", "commit": "mbw", "rollback": "b",
+    "begin": "", "file_size": "", "read": "mb", "write": "mbw", "truncate": "mbw", "commit": "mbw", "rollback": "b",
     **{k: "m" for k in MEMORY_ONLY},
 }
 
@@ -523,7 +523,7 @@ class Store:
     def do_rollback(self, s, l):
         return self.end(s, l, ("Done",)) if s.updating else Out(s, l, ("Done",))
 
-    def do_fileSize(self, s, l):
+    def do_file_size(self, s, l):
         return Out(s, l, ("Size", s.overlay.size if s.updating else s.block["db_size"]))
 
     # commit
@@ -581,7 +581,7 @@ class Store:
 
     # imports
 
-    def do_importBegin(self, s, l, total, expected):
+    def do_import_begin(self, s, l, total, expected):
         b, base = s.block, s.count * self.par.S
         if b["flags"] & IMPORTING:
             raise Refuse(10)
@@ -597,7 +597,7 @@ class Store:
         if not s.block["flags"] & IMPORTING:
             raise Refuse(11)
 
-    def do_importChunk(self, s, l, offset, values):
+    def do_import_chunk(self, s, l, offset, values):
         self.need_import(s)
         b, end = s.block, offset + len(values)
         if offset != b["import_written_until"]:
@@ -620,7 +620,7 @@ class Store:
         b["flags"] &= ~IMPORTING
         b.update(import_expected_checksum=0, import_written_until=0, import_total_size=0, import_base_offset=0)
 
-    def do_importFinish(self, s, l):
+    def do_import_finish(self, s, l):
         self.need_import(s)
         b = s.block
         base, total, expected = b["import_base_offset"], b["import_total_size"], b["import_expected_checksum"]
@@ -638,7 +638,7 @@ class Store:
         self.store_block(s, l, [])
         return Out(s, l, ("Done",))
 
-    def do_importCancel(self, s, l):
+    def do_import_cancel(self, s, l):
         self.need_import(s)
         self.close_import(s.block)
         self.store_block(s, l)
@@ -667,7 +667,7 @@ class Store:
         b["flags"] &= ~STALE
         self.clear_refresh(b)
 
-    def do_refreshStep(self, s, l, most):
+    def do_refresh_step(self, s, l, most):
         b = s.block
         if most == 0:
             raise Refuse(25)
@@ -701,7 +701,7 @@ class Store:
             s = State(count, block, False, self.no_overlay())
             if block["flags"] & IMPORTING:
                 # 02, W-202: "closes it as `cancel_import` would and stores the superblock"
-                self.do_importCancel(s, Lent(mem, [], [], [], [], []))
+                self.do_import_cancel(s, Lent(mem, [], [], [], [], []))
             return s, ("Done",), mem
         except Refuse as r:
             return State(count, None, False, self.no_overlay()), ("Refused", r.number, *r.values), mem

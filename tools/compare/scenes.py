@@ -53,15 +53,15 @@ def at_the_end_of_numbers(p):
 
 
 def both_open(p):
-    calls = [("begin", False, 0, 0), (), ("begin", True, 1, 1), ("importBegin", 1, 1), ("refreshStep", 0), ("importChunk", 3, []), ("importFinish",),
-             ("export", 0, [4] * 3), ("commit",), ("refreshStep", 0), ("importChunk", 1, byte_list(min(p.M, 95))), ("importBegin", p.M, 0)]
+    calls = [("begin", False, 0, 0), (), ("begin", True, 1, 1), ("import_begin", 1, 1), ("refresh_step", 0), ("import_chunk", 3, []), ("import_finish",),
+             ("export", 0, [4] * 3), ("commit",), ("refresh_step", 0), ("import_chunk", 1, byte_list(min(p.M, 95))), ("import_begin", p.M, 0)]
     return dict(size=p.P, runs=[], frames=2, calls=calls)
 
 
 def over_refresh(p):
     """An import of 0 bytes, which is complete, and a refresh under way."""
     fields = dict(flags=IMPORTING | REFRESHING | 2, checksum_refresh_offset=1, checksum_refresh_hash=9, import_base_offset=p.S + 2, schema_version=4)
-    calls = [("refreshStep", 0), ("refreshStep", 1), ("importFinish",), ("refreshStep", 1), ("refreshStep", p.M)]
+    calls = [("refresh_step", 0), ("refresh_step", 1), ("import_finish",), ("refresh_step", 1), ("refresh_step", p.M)]
     return fields, dict(size=3, runs=[(0, 1)], frames=2, calls=calls, sum_of=0)
 
 
@@ -85,9 +85,9 @@ def moved_up(p):
 
 def past_all_numbers(p):
     """An import whose end is no number; no image accepted at opening has one."""
-    calls = [("importBegin", 2, 3), ("importChunk", 0, [5]), ()]
+    calls = [("import_begin", 2, 3), ("import_chunk", 0, [5]), ()]
     rest = p.M - 2 * p.S - 1
-    calls += [("importChunk", 1, byte_list(rest + 1)), ("importChunk", 1, [])] if p.M < 100 and rest >= 0 else []
+    calls += [("import_chunk", 1, byte_list(rest + 1)), ("import_chunk", 1, [])] if p.M < 100 and rest >= 0 else []
     return dict(size=1, runs=[], frames=1, calls=calls)
 
 

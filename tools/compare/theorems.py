@@ -13,52 +13,50 @@ REFUSALS = {
 NAMES = """
 config.specs.Pages| count
 memory.specs.Bytes| zeros overwrite resize
-memory.specs.Growth stable| growTo=growMemory required=requiredPages
+memory.specs.Growth stable| grow_to=growMemory required=requiredPages
 meta.specs.Runs| normalized
-meta.specs.Block magic ofFields|real fieldOffset fieldsIn decode=decodeBlock checksumOf seal prefix encodedLen blockBytes encode header headerOf fresh=freshBlock
-words.specs.Words|real word wordAt
+meta.specs.Block magic of_fields|real field_offset fields_in decode=decodeBlock checksum_of seal prefix encoded_len block_bytes encode header header_of fresh=freshBlock
+words.specs.Words|real word word_at
 fnv.specs.Fnv|real mixed step fold fnv1a64
-meta_load.specs.Load|real load=loadBlock judge blockRuns checksumIn
+meta_load.specs.Load|real load=loadBlock judge block_runs checksum_in
 runs.specs.Sets| within merge insert add around piece remove
-runs.specs.Flat| runsIn=flatRuns
-image_runs.specs.Image|real imageNumbers imageCount
-extents.specs.Plan| additions addOne remain plan
+runs.specs.Flat| runs_in=flatRuns
+image_runs.specs.Image|real image_numbers image_count
+extents.specs.Plan| additions add_one remain plan
 update.specs.Lists| put refill tabulate
-update.specs.Pages| addNumberIf span grownNumbers
-update.specs.Image| imageByte imagePage
-update.specs.Update| pushRun raw overByte budgetBytes raised touch blank copy stretch patch finish grow growTo chop tail truncated wholePage overWrite written fresh lookUp sized passing marked tryTouch tryPatch tryFinish tryGrow tryGrowTo tryTail tryChop tryTruncate tryWrite
-update.specs.Buffers| frameCount entryCount wiped cached shortBuffers view overlayOf putBack dirtyPage
+update.specs.Pages| add_number_if span grown_numbers
+update.specs.Image| image_byte image_page
+update.specs.Update| push_run raw over_byte budget_bytes raised touch blank copy stretch patch finish grow grow_to chop tail truncated whole_page over_write written fresh look_up sized passing marked try_touch try_patch try_finish try_grow try_grow_to try_tail try_chop try_truncate try_write
+update.specs.Buffers| frame_count entry_count wiped cached short_buffers view overlay_of put_back dirty_page
 store.specs.Codec| stored
-store.specs.Codec|real realCodec
-store.specs.Small|small smallCodec smallSum smallDecode smallRuns smallLoad smallFresh
-store.specs.Blocks| importing stale refreshing marks afterCommit afterImportBegin afterImportChunk afterImportCancel afterImportFinish afterRefresh afterRefreshStep
-store.specs.Calls begin read write truncate commit rollback fileSize importBegin importChunk importFinish importCancel export checksum refresh refreshStep Lent Out out modeOf| short
-store.specs.Plan| storePlan
-store.specs.Store dirtyIn| noOverlay imageBytes unchanged plannedRuns commitOver restore doImportBegin doImportChunk doImportFinish doImportCancel doExport imageSum doChecksum doRefresh refreshFrom doRefreshStep store
-store.specs.Opening Opened| outside openImage closing open′
+store.specs.Codec|real real_codec
+store.specs.Small|small small_codec small_sum small_decode small_runs small_load small_fresh
+store.specs.Blocks| importing stale refreshing marks after_commit after_import_begin after_import_chunk after_import_cancel after_import_finish after_refresh after_refresh_step
+store.specs.Calls begin read write truncate commit rollback file_size import_begin import_chunk import_finish import_cancel export checksum refresh refresh_step Lent Out out mode_of| short
+store.specs.Plan| store_plan
+store.specs.Store dirty_in| no_overlay image_bytes unchanged planned_runs commit_over restore do_import_begin do_import_chunk do_import_finish do_import_cancel do_export image_sum do_checksum do_refresh refresh_from do_refresh_step store
+store.specs.Opening Opened| outside open_image closing open'
 """
 
 SHAPES = """-- Short forms of states, lent slices and refusals, for the compared calls.
-use Prim.Native.Nat.{ℕ}
-use mathlib.Core.Bool.{Bool, true, false}
-use mathlib.Core.List.{List, []}
-use Rattle·memory.specs.Growth.{stable}
-use Rattle·meta.specs.declared.superblock.Superblock.{Superblock}
-use Rattle·update.specs.declared.Overlay.{Overlay}
-use Rattle·update.specs.declared.Budget.{Budget}
-use Rattle·update.specs.Buffers.{Buffers}
-use Rattle·store.specs.declared.State.{State}
-use Rattle·store.specs.declared.Answer.{Answer}
-use Rattle·store.specs.declared.Answer.the-variants.{Refreshed}
-use Rattle·store.specs.Calls.{Lent}
-use Rattle·store.specs.Opening.{Opened}
+use Rattle.std.specs.Prelude.{ℕ, Bool, true, false, List, []}
+use Rattle.memory.specs.Growth.{stable}
+use Rattle.meta.specs.declared.superblock.Superblock.{Superblock}
+use Rattle.update.specs.declared.Overlay.{Overlay}
+use Rattle.update.specs.declared.Budget.{Budget}
+use Rattle.update.specs.Buffers.{Buffers}
+use Rattle.store.specs.declared.State.{State}
+use Rattle.store.specs.declared.Answer.{Answer}
+use Rattle.store.specs.declared.Answer.TheVariants.{Refreshed}
+use Rattle.store.specs.Calls.{Lent}
+use Rattle.store.specs.Opening.{Opened}
 
 abbrev pub budget : Bool → ℕ → ℕ → ℕ → ℕ → ℕ → Budget
-budget g p b x pp pb = record { limited = g; «max_pages» = p; «max_bytes» = b; passed = x; «peak_pages» = pp; «peak_bytes» = pb }
+budget g p b x pp pb = record { limited = g; max_pages = p; max_bytes = b; passed = x; peak_pages = pp; peak_bytes = pb }
 
 abbrev pub overlay : ℕ → ℕ → ℕ → ℕ → List ℕ → ℕ → Budget → Overlay
 overlay begun size dirty recorded pages count g = record {
-  «base_size» = begun;
+  base_size = begun;
   size = size;
   dirty = dirty;
   recorded = recorded;
@@ -74,7 +72,7 @@ abbrev pub lent : List ℕ → List ℕ → List ℕ → List ℕ → List ℕ �
 lent m f n c r w = record { mem = m; bufs = record { frames = f; numbers = n; clean = c; recs = r }; work = w }
 
 abbrev pub refreshed : Bool → ℕ → ℕ → ℕ → Answer
-refreshed full sum offset size = Refreshed (record { complete = full; checksum = sum; «scanned_bytes» = offset; «db_size» = size })
+refreshed full sum offset size = Refreshed (record { complete = full; checksum = sum; scanned_bytes = offset; db_size = size })
 
 abbrev pub opened : State → Answer → List ℕ → Opened
 opened s a m = record { state = s; answer = a; mem = m }
@@ -96,7 +94,7 @@ def names(codecs):
         for name in plain + computed.split():
             name, _, alias = name.partition("=")
             imported.append(f"{name} as {alias}" if alias else name)
-        uses.append(f"use Rattle·{module}.{{{', '.join(imported)}}}")
+        uses.append(f"use Rattle.{module}.{{{', '.join(imported)}}}")
         through += [n.partition("=")[2] or n for n in computed.split()]
     return uses, through
 
@@ -104,12 +102,11 @@ def names(codecs):
 def header(crate, about, codecs):
     uses, _ = names(codecs)
     fixed = [
-        "use mathlib.Core.Path.{_≡_, refl}", "use Prim.Native.Nat.{ℕ}", "use mathlib.Core.Bool.{Bool, true, false}",
-        "use mathlib.Core.List.{List, [], _∷_, _++_}",
-        "use Rattle·config.specs.declared.refusal.Refusal.the-variants.{" + ", ".join(REFUSALS.values()) + "}",
-        "use Rattle·store.specs.declared.State.{State}",
-        "use Rattle·store.specs.declared.Answer.the-variants.{Done, Size, Read, Exported, Checksum, Refreshed, Refused}",
-        f"use Rattle·{crate}·specs.specs.Shapes.{{budget, overlay, state, lent, refreshed, opened}}",
+        "use Rattle.std.specs.Prelude.{◌≡◌, refl, ℕ, Bool, true, false, List, [], ◌∷◌, ◌++◌}",
+        "use Rattle.config.specs.declared.refusal.Refusal.TheVariants.{" + ", ".join(REFUSALS.values()) + "}",
+        "use Rattle.store.specs.declared.State.{State}",
+        "use Rattle.store.specs.declared.Answer.TheVariants.{Done, Size, Read, Exported, Checksum, Refreshed, Refused}",
+        f"use Rattle.{crate}.specs.Shapes.{{budget, overlay, state, lent, refreshed, opened}}",
     ]
     return "\n".join([f"-- {about}"] + fixed + uses) + "\n"
 
@@ -130,9 +127,9 @@ def boolean(b):
 
 def block(b):
     if b is None:
-        return "(ofFields 0 0 0 [])"
+        return "(of_fields 0 0 0 [])"
     magic = b["magic"] if isinstance(b["magic"], str) else str(int.from_bytes(bytes(b["magic"]), "little"))
-    return f"(ofFields {magic} {b['version']} {b['sqlite_page_size']} {nums([b[f] for f in FIELDS])})"
+    return f"(of_fields {magic} {b['version']} {b['sqlite_page_size']} {nums([b[f] for f in FIELDS])})"
 
 
 def overlay(v):
@@ -175,17 +172,17 @@ def statement(entry):
     at = sizes(entry["par"], entry["codec"])
     if entry["kind"] == "open":
         s, a, m = entry["out"]
-        return f"open′ {at} {entry['count']} {nums(entry['mem'])} ≡ opened {state(s)} {answer(a)} {nums(m)}"
+        return f"open' {at} {entry['count']} {nums(entry['mem'])} ≡ opened {state(s)} {answer(a)} {nums(m)}"
     s, l = entry["state"], entry["lent"]
     if entry["kind"] == "view":
-        return f"dirtyIn {at} (modeOf {state(s)}) {nums(l.frames)} {nums(l.numbers)} {entry['page']} ≡ {nums(entry['out'])}"
+        return f"dirty_in {at} (mode_of {state(s)}) {nums(l.frames)} {nums(l.numbers)} {entry['page']} ≡ {nums(entry['out'])}"
     o = entry["out"]
     return f"store {at} {state(s)} {lent(l)} {call(entry['call'])} ≡ out {state(o.state)} {lent(o.lent)} {answer(o.answer)} {nums(o.filled)}"
 
 
 def theorem(name, entries):
     """One theorem for one call, or for some together."""
-    _, through = names({e["codec"].name[:-5] for e in entries})
+    _, through = names({e["codec"].name.partition("_")[0] for e in entries})
     notes = "".join(f"-- {e['note']}\n" for e in entries if e.get("note"))
     if len(entries) == 1:
         said, proof = statement(entries[0]), "refl"
@@ -198,7 +195,7 @@ def theorem(name, entries):
 
 def module(crate, about, groups, first):
     """Groups of entries, each a theorem; they are numbered from first on."""
-    parts = [header(crate, about, {e["codec"].name[:-5] for g in groups for e in g})]
+    parts = [header(crate, about, {e["codec"].name.partition("_")[0] for g in groups for e in g})]
     for i, group in enumerate(groups, first):
         parts.append(theorem(f"c{i}", group))
     return "\n".join(parts)

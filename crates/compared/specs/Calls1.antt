@@ -171,16 +171,16 @@ c11 :
 unfolding count zeros overwrite resize growMemory requiredPages normalized within merge insert add around piece remove flatRuns additions add_one remain plan put refill tabulate add_number_if span grown_numbers image_byte image_page push_run raw over_byte budget_bytes raised touch blank copy stretch patch finish grow grow_to chop tail truncated whole_page over_write written fresh look_up sized passing marked try_touch try_patch try_finish try_grow try_grow_to try_tail try_chop try_truncate try_write frame_count entry_count wiped cached short_buffers view overlay_of put_back dirty_page stored small_codec small_sum small_decode small_runs small_load small_fresh importing stale refreshing marks after_commit after_import_begin after_import_chunk after_import_cancel after_import_finish after_refresh after_refresh_step short store_plan no_overlay image_bytes unchanged planned_runs commit_over restore do_import_begin do_import_chunk do_import_finish do_import_cancel do_export image_sum do_checksum do_refresh refresh_from do_refresh_step store outside open_image closing open'
 c11 = (refl, (refl, (refl)))
 
--- fileSize: accepted
+-- file_size: accepted
 c12 : store 2 24 3 3 95 small_codec (state 1 (of_fields magic 8 2 (0 ∷ 0 ∷ 0 ∷ 0 ∷ 0 ∷ 0 ∷ 0 ∷ 0 ∷ 0 ∷ 0 ∷ 0 ∷ 0 ∷ 24 ∷ 0 ∷ 0 ∷ 8 ∷ 0 ∷ 53 ∷ [])) true (overlay 0 1 1 1 (zeros 3) 0 (budget false 0 0 0 0 0))) (lent (0 ∷ 0 ∷ 0 ∷ 0 ∷ 0 ∷ 0 ∷ 0 ∷ 0 ∷ 0 ∷ 0 ∷ 0 ∷ 0 ∷ 24 ∷ 0 ∷ 0 ∷ 8 ∷ 0 ∷ 53 ∷ zeros 78) (7 ∷ 0 ∷ []) (0 ∷ []) (1 ∷ 4 ∷ 4 ∷ 8 ∷ 8 ∷ 5 ∷ []) (0 ∷ 1 ∷ zeros 10) (zeros 12)) (file_size) ≡ out (state 1 (of_fields magic 8 2 (0 ∷ 0 ∷ 0 ∷ 0 ∷ 0 ∷ 0 ∷ 0 ∷ 0 ∷ 0 ∷ 0 ∷ 0 ∷ 0 ∷ 24 ∷ 0 ∷ 0 ∷ 8 ∷ 0 ∷ 53 ∷ [])) true (overlay 0 1 1 1 (zeros 3) 0 (budget false 0 0 0 0 0))) (lent (0 ∷ 0 ∷ 0 ∷ 0 ∷ 0 ∷ 0 ∷ 0 ∷ 0 ∷ 0 ∷ 0 ∷ 0 ∷ 0 ∷ 24 ∷ 0 ∷ 0 ∷ 8 ∷ 0 ∷ 53 ∷ zeros 78) (7 ∷ 0 ∷ []) (0 ∷ []) (1 ∷ 4 ∷ 4 ∷ 8 ∷ 8 ∷ 5 ∷ []) (0 ∷ 1 ∷ zeros 10) (zeros 12)) (Size 1) ([])
 unfolding count zeros overwrite resize growMemory requiredPages normalized within merge insert add around piece remove flatRuns additions add_one remain plan put refill tabulate add_number_if span grown_numbers image_byte image_page push_run raw over_byte budget_bytes raised touch blank copy stretch patch finish grow grow_to chop tail truncated whole_page over_write written fresh look_up sized passing marked try_touch try_patch try_finish try_grow try_grow_to try_tail try_chop try_truncate try_write frame_count entry_count wiped cached short_buffers view overlay_of put_back dirty_page stored small_codec small_sum small_decode small_runs small_load small_fresh importing stale refreshing marks after_commit after_import_begin after_import_chunk after_import_cancel after_import_finish after_refresh after_refresh_step short store_plan no_overlay image_bytes unchanged planned_runs commit_over restore do_import_begin do_import_chunk do_import_finish do_import_cancel do_export image_sum do_checksum do_refresh refresh_from do_refresh_step store outside open_image closing open'
 c12 = refl
 
--- importBegin: 10
--- importBegin: 12
--- importBegin: 20
--- importBegin: 35
--- importBegin: accepted
+-- import_begin: 10
+-- import_begin: 12
+-- import_begin: 20
+-- import_begin: 35
+-- import_begin: accepted
 c13 :
     (store 2 24 2 3 199 small_codec (state 2 (of_fields magic 8 2 (10 ∷ 0 ∷ 0 ∷ 1 ∷ 1 ∷ 188 ∷ 0 ∷ 2 ∷ 48 ∷ 0 ∷ 0 ∷ 0 ∷ 24 ∷ 0 ∷ 5 ∷ 8 ∷ 1 ∷ 89 ∷ [])) false (overlay 0 0 0 0 (0 ∷ 0 ∷ []) 0 (budget false 0 0 0 0 0))) (lent (10 ∷ 0 ∷ 0 ∷ 1 ∷ 1 ∷ 188 ∷ 0 ∷ 2 ∷ 48 ∷ 0 ∷ 0 ∷ 0 ∷ 24 ∷ 0 ∷ 5 ∷ 8 ∷ 1 ∷ 89 ∷ 5 ∷ 6 ∷ 0 ∷ 0 ∷ 0 ∷ 0 ∷ 7 ∷ 255 ∷ 207 ∷ 249 ∷ 1 ∷ 255 ∷ 7 ∷ 255 ∷ 0 ∷ 0 ∷ 7 ∷ zeros 61) (zeros 18) (6 ∷ 1 ∷ 5 ∷ 3 ∷ 6 ∷ 6 ∷ 1 ∷ 3 ∷ 3 ∷ []) (zeros 4) (2 ∷ 5 ∷ 5 ∷ 7 ∷ 8 ∷ 1 ∷ []) (zeros 44)) (import_begin 1 8) ≡ out (state 2 (of_fields magic 8 2 (10 ∷ 0 ∷ 0 ∷ 1 ∷ 1 ∷ 188 ∷ 0 ∷ 2 ∷ 48 ∷ 0 ∷ 0 ∷ 0 ∷ 24 ∷ 0 ∷ 5 ∷ 8 ∷ 1 ∷ 89 ∷ [])) false (overlay 0 0 0 0 (0 ∷ 0 ∷ []) 0 (budget false 0 0 0 0 0))) (lent (10 ∷ 0 ∷ 0 ∷ 1 ∷ 1 ∷ 188 ∷ 0 ∷ 2 ∷ 48 ∷ 0 ∷ 0 ∷ 0 ∷ 24 ∷ 0 ∷ 5 ∷ 8 ∷ 1 ∷ 89 ∷ 5 ∷ 6 ∷ 0 ∷ 0 ∷ 0 ∷ 0 ∷ 7 ∷ 255 ∷ 207 ∷ 249 ∷ 1 ∷ 255 ∷ 7 ∷ 255 ∷ 0 ∷ 0 ∷ 7 ∷ zeros 61) (zeros 18) (6 ∷ 1 ∷ 5 ∷ 3 ∷ 6 ∷ 6 ∷ 1 ∷ 3 ∷ 3 ∷ []) (zeros 4) (2 ∷ 5 ∷ 5 ∷ 7 ∷ 8 ∷ 1 ∷ []) (zeros 44)) (Refused (ImportAlreadyStarted)) ([])) ×
     ((store 2 24 3 3 95 small_codec (state 1 (of_fields magic 8 2 (0 ∷ 0 ∷ 0 ∷ 0 ∷ 0 ∷ 0 ∷ 0 ∷ 0 ∷ 0 ∷ 0 ∷ 0 ∷ 0 ∷ 24 ∷ 0 ∷ 0 ∷ 8 ∷ 0 ∷ 53 ∷ [])) true (overlay 0 18 1 3 (zeros 3) 0 (budget true 2 3 2 1 2))) (lent (0 ∷ 0 ∷ 0 ∷ 0 ∷ 0 ∷ 0 ∷ 0 ∷ 0 ∷ 0 ∷ 0 ∷ 0 ∷ 0 ∷ 24 ∷ 0 ∷ 0 ∷ 8 ∷ 0 ∷ 53 ∷ 0 ∷ 0 ∷ 0 ∷ 0 ∷ 0 ∷ 0 ∷ 7 ∷ 1 ∷ 4 ∷ 7 ∷ 1 ∷ 2 ∷ 6 ∷ []) (0 ∷ 0 ∷ 8 ∷ 4 ∷ 8 ∷ 6 ∷ 3 ∷ 1 ∷ 8 ∷ []) (11 ∷ 6 ∷ 4 ∷ 1 ∷ []) (zeros 7) (0 ∷ 9 ∷ 9 ∷ 12 ∷ 9 ∷ 13 ∷ 2 ∷ 2 ∷ 3 ∷ 1 ∷ 5 ∷ []) (zeros 25)) (import_begin 1 15) ≡ out (state 1 (of_fields magic 8 2 (0 ∷ 0 ∷ 0 ∷ 0 ∷ 0 ∷ 0 ∷ 0 ∷ 0 ∷ 0 ∷ 0 ∷ 0 ∷ 0 ∷ 24 ∷ 0 ∷ 0 ∷ 8 ∷ 0 ∷ 53 ∷ [])) true (overlay 0 18 1 3 (zeros 3) 0 (budget true 2 3 2 1 2))) (lent (0 ∷ 0 ∷ 0 ∷ 0 ∷ 0 ∷ 0 ∷ 0 ∷ 0 ∷ 0 ∷ 0 ∷ 0 ∷ 0 ∷ 24 ∷ 0 ∷ 0 ∷ 8 ∷ 0 ∷ 53 ∷ 0 ∷ 0 ∷ 0 ∷ 0 ∷ 0 ∷ 0 ∷ 7 ∷ 1 ∷ 4 ∷ 7 ∷ 1 ∷ 2 ∷ 6 ∷ []) (0 ∷ 0 ∷ 8 ∷ 4 ∷ 8 ∷ 6 ∷ 3 ∷ 1 ∷ 8 ∷ []) (11 ∷ 6 ∷ 4 ∷ 1 ∷ []) (zeros 7) (0 ∷ 9 ∷ 9 ∷ 12 ∷ 9 ∷ 13 ∷ 2 ∷ 2 ∷ 3 ∷ 1 ∷ 5 ∷ []) (zeros 25)) (Refused (UpdateInProgress)) ([])) ×
@@ -190,10 +190,10 @@ c13 :
 unfolding count zeros overwrite resize growMemory requiredPages normalized within merge insert add around piece remove flatRuns additions add_one remain plan put refill tabulate add_number_if span grown_numbers image_byte image_page push_run raw over_byte budget_bytes raised touch blank copy stretch patch finish grow grow_to chop tail truncated whole_page over_write written fresh look_up sized passing marked try_touch try_patch try_finish try_grow try_grow_to try_tail try_chop try_truncate try_write frame_count entry_count wiped cached short_buffers view overlay_of put_back dirty_page stored small_codec small_sum small_decode small_runs small_load small_fresh importing stale refreshing marks after_commit after_import_begin after_import_chunk after_import_cancel after_import_finish after_refresh after_refresh_step short store_plan no_overlay image_bytes unchanged planned_runs commit_over restore do_import_begin do_import_chunk do_import_finish do_import_cancel do_export image_sum do_checksum do_refresh refresh_from do_refresh_step store outside open_image closing open'
 c13 = (refl, (refl, (refl, (refl, (refl)))))
 
--- importCancel: 11
--- importCancel: 12
--- importCancel: 35
--- importCancel: accepted
+-- import_cancel: 11
+-- import_cancel: 12
+-- import_cancel: 35
+-- import_cancel: accepted
 c14 :
     (store 4 24 2 3 199 small_codec (state 1 (of_fields magic 8 2 (0 ∷ 0 ∷ 0 ∷ 0 ∷ 0 ∷ 0 ∷ 0 ∷ 0 ∷ 0 ∷ 0 ∷ 0 ∷ 0 ∷ 24 ∷ 0 ∷ 0 ∷ 8 ∷ 0 ∷ 53 ∷ [])) false (overlay 0 0 0 0 (0 ∷ 0 ∷ []) 0 (budget false 0 0 0 0 0))) (lent (0 ∷ 0 ∷ 0 ∷ 0 ∷ 0 ∷ 0 ∷ 0 ∷ 0 ∷ 0 ∷ 0 ∷ 0 ∷ 0 ∷ 24 ∷ 0 ∷ 0 ∷ 8 ∷ 0 ∷ 53 ∷ zeros 102) (8 ∷ 4 ∷ 2 ∷ 7 ∷ []) (0 ∷ []) (8 ∷ 1 ∷ 1 ∷ 2 ∷ 8 ∷ 2 ∷ 4 ∷ 8 ∷ []) (3 ∷ 5 ∷ 1 ∷ 5 ∷ 8 ∷ 6 ∷ []) (zeros 12)) (import_cancel) ≡ out (state 1 (of_fields magic 8 2 (0 ∷ 0 ∷ 0 ∷ 0 ∷ 0 ∷ 0 ∷ 0 ∷ 0 ∷ 0 ∷ 0 ∷ 0 ∷ 0 ∷ 24 ∷ 0 ∷ 0 ∷ 8 ∷ 0 ∷ 53 ∷ [])) false (overlay 0 0 0 0 (0 ∷ 0 ∷ []) 0 (budget false 0 0 0 0 0))) (lent (0 ∷ 0 ∷ 0 ∷ 0 ∷ 0 ∷ 0 ∷ 0 ∷ 0 ∷ 0 ∷ 0 ∷ 0 ∷ 0 ∷ 24 ∷ 0 ∷ 0 ∷ 8 ∷ 0 ∷ 53 ∷ zeros 102) (8 ∷ 4 ∷ 2 ∷ 7 ∷ []) (0 ∷ []) (8 ∷ 1 ∷ 1 ∷ 2 ∷ 8 ∷ 2 ∷ 4 ∷ 8 ∷ []) (3 ∷ 5 ∷ 1 ∷ 5 ∷ 8 ∷ 6 ∷ []) (zeros 12)) (Refused (ImportNotStarted)) ([])) ×
     ((store 4 24 2 3 199 small_codec (state 1 (of_fields magic 8 2 (0 ∷ 0 ∷ 0 ∷ 0 ∷ 0 ∷ 0 ∷ 0 ∷ 0 ∷ 0 ∷ 0 ∷ 0 ∷ 0 ∷ 24 ∷ 0 ∷ 0 ∷ 8 ∷ 0 ∷ 53 ∷ [])) true (overlay 0 199 1 1 (0 ∷ 0 ∷ []) 0 (budget true 4 16 0 1 4))) (lent (0 ∷ 0 ∷ 0 ∷ 0 ∷ 0 ∷ 0 ∷ 0 ∷ 0 ∷ 0 ∷ 0 ∷ 0 ∷ 0 ∷ 24 ∷ 0 ∷ 0 ∷ 8 ∷ 0 ∷ 53 ∷ zeros 54) (zeros 4) (49 ∷ []) (5 ∷ 2 ∷ 5 ∷ 8 ∷ 2 ∷ 5 ∷ 2 ∷ 6 ∷ []) (0 ∷ 50 ∷ []) (zeros 12)) (import_cancel) ≡ out (state 1 (of_fields magic 8 2 (0 ∷ 0 ∷ 0 ∷ 0 ∷ 0 ∷ 0 ∷ 0 ∷ 0 ∷ 0 ∷ 0 ∷ 0 ∷ 0 ∷ 24 ∷ 0 ∷ 0 ∷ 8 ∷ 0 ∷ 53 ∷ [])) true (overlay 0 199 1 1 (0 ∷ 0 ∷ []) 0 (budget true 4 16 0 1 4))) (lent (0 ∷ 0 ∷ 0 ∷ 0 ∷ 0 ∷ 0 ∷ 0 ∷ 0 ∷ 0 ∷ 0 ∷ 0 ∷ 0 ∷ 24 ∷ 0 ∷ 0 ∷ 8 ∷ 0 ∷ 53 ∷ zeros 54) (zeros 4) (49 ∷ []) (5 ∷ 2 ∷ 5 ∷ 8 ∷ 2 ∷ 5 ∷ 2 ∷ 6 ∷ []) (0 ∷ 50 ∷ []) (zeros 12)) (Refused (UpdateInProgress)) ([])) ×
@@ -202,14 +202,14 @@ c14 :
 unfolding count zeros overwrite resize growMemory requiredPages normalized within merge insert add around piece remove flatRuns additions add_one remain plan put refill tabulate add_number_if span grown_numbers image_byte image_page push_run raw over_byte budget_bytes raised touch blank copy stretch patch finish grow grow_to chop tail truncated whole_page over_write written fresh look_up sized passing marked try_touch try_patch try_finish try_grow try_grow_to try_tail try_chop try_truncate try_write frame_count entry_count wiped cached short_buffers view overlay_of put_back dirty_page stored small_codec small_sum small_decode small_runs small_load small_fresh importing stale refreshing marks after_commit after_import_begin after_import_chunk after_import_cancel after_import_finish after_refresh after_refresh_step short store_plan no_overlay image_bytes unchanged planned_runs commit_over restore do_import_begin do_import_chunk do_import_finish do_import_cancel do_export image_sum do_checksum do_refresh refresh_from do_refresh_step store outside open_image closing open'
 c14 = (refl, (refl, (refl, (refl))))
 
--- importChunk: 11
--- importChunk: 12
--- importChunk: 20
--- importChunk: 21
--- importChunk: 22
--- importChunk: 32
--- importChunk: 35
--- importChunk: accepted
+-- import_chunk: 11
+-- import_chunk: 12
+-- import_chunk: 20
+-- import_chunk: 21
+-- import_chunk: 22
+-- import_chunk: 32
+-- import_chunk: 35
+-- import_chunk: accepted
 c15 :
     (store 2 24 3 3 95 small_codec (state 2 (of_fields magic 8 2 (18 ∷ 0 ∷ 95 ∷ 10 ∷ 1 ∷ 0 ∷ 0 ∷ 0 ∷ 0 ∷ 0 ∷ 0 ∷ 0 ∷ 24 ∷ 0 ∷ 9 ∷ 8 ∷ 3 ∷ 187 ∷ [])) false (overlay 0 0 0 0 (zeros 3) 0 (budget false 0 0 0 0 0))) (lent (18 ∷ 0 ∷ 95 ∷ 10 ∷ 1 ∷ 0 ∷ 0 ∷ 0 ∷ 0 ∷ 0 ∷ 0 ∷ 0 ∷ 24 ∷ 0 ∷ 9 ∷ 8 ∷ 3 ∷ 187 ∷ 0 ∷ 7 ∷ 9 ∷ 11 ∷ 13 ∷ 16 ∷ 0 ∷ 255 ∷ 74 ∷ 59 ∷ 1 ∷ 0 ∷ 7 ∷ 7 ∷ 40 ∷ 0 ∷ 7 ∷ 255 ∷ 0 ∷ 255 ∷ 1 ∷ 1 ∷ 255 ∷ 54 ∷ 0 ∷ 255 ∷ 255 ∷ 7 ∷ 0 ∷ 185 ∷ []) (zeros 8) (zeros 4) (zeros 6) (zeros 6) (zeros 22)) (import_chunk 0 ([])) ≡ out (state 2 (of_fields magic 8 2 (18 ∷ 0 ∷ 95 ∷ 10 ∷ 1 ∷ 0 ∷ 0 ∷ 0 ∷ 0 ∷ 0 ∷ 0 ∷ 0 ∷ 24 ∷ 0 ∷ 9 ∷ 8 ∷ 3 ∷ 187 ∷ [])) false (overlay 0 0 0 0 (zeros 3) 0 (budget false 0 0 0 0 0))) (lent (18 ∷ 0 ∷ 95 ∷ 10 ∷ 1 ∷ 0 ∷ 0 ∷ 0 ∷ 0 ∷ 0 ∷ 0 ∷ 0 ∷ 24 ∷ 0 ∷ 9 ∷ 8 ∷ 3 ∷ 187 ∷ 0 ∷ 7 ∷ 9 ∷ 11 ∷ 13 ∷ 16 ∷ 0 ∷ 255 ∷ 74 ∷ 59 ∷ 1 ∷ 0 ∷ 7 ∷ 7 ∷ 40 ∷ 0 ∷ 7 ∷ 255 ∷ 0 ∷ 255 ∷ 1 ∷ 1 ∷ 255 ∷ 54 ∷ 0 ∷ 255 ∷ 255 ∷ 7 ∷ 0 ∷ 185 ∷ []) (zeros 8) (zeros 4) (zeros 6) (zeros 6) (zeros 22)) (Refused (ImportNotStarted)) ([])) ×
     ((store 2 24 3 3 95 small_codec (state 2 (of_fields magic 8 2 (19 ∷ 0 ∷ 0 ∷ 0 ∷ 0 ∷ 0 ∷ 0 ∷ 0 ∷ 0 ∷ 0 ∷ 0 ∷ 0 ∷ 24 ∷ 0 ∷ 10 ∷ 8 ∷ 1 ∷ 31 ∷ [])) true (overlay 19 19 0 0 (zeros 3) 0 (budget true 0 0 0 0 0))) (lent (19 ∷ 0 ∷ 0 ∷ 0 ∷ 0 ∷ 0 ∷ 0 ∷ 0 ∷ 0 ∷ 0 ∷ 0 ∷ 0 ∷ 24 ∷ 0 ∷ 10 ∷ 8 ∷ 1 ∷ 31 ∷ 0 ∷ 9 ∷ zeros 28) (8 ∷ 7 ∷ []) (8 ∷ []) (8 ∷ 3 ∷ 7 ∷ 5 ∷ 8 ∷ 5 ∷ []) (zeros 8) (5 ∷ 8 ∷ 4 ∷ 5 ∷ 3 ∷ 7 ∷ 4 ∷ 6 ∷ 8 ∷ 6 ∷ 1 ∷ 7 ∷ [])) (import_chunk 0 ([])) ≡ out (state 2 (of_fields magic 8 2 (19 ∷ 0 ∷ 0 ∷ 0 ∷ 0 ∷ 0 ∷ 0 ∷ 0 ∷ 0 ∷ 0 ∷ 0 ∷ 0 ∷ 24 ∷ 0 ∷ 10 ∷ 8 ∷ 1 ∷ 31 ∷ [])) true (overlay 19 19 0 0 (zeros 3) 0 (budget true 0 0 0 0 0))) (lent (19 ∷ 0 ∷ 0 ∷ 0 ∷ 0 ∷ 0 ∷ 0 ∷ 0 ∷ 0 ∷ 0 ∷ 0 ∷ 0 ∷ 24 ∷ 0 ∷ 10 ∷ 8 ∷ 1 ∷ 31 ∷ 0 ∷ 9 ∷ zeros 28) (8 ∷ 7 ∷ []) (8 ∷ []) (8 ∷ 3 ∷ 7 ∷ 5 ∷ 8 ∷ 5 ∷ []) (zeros 8) (5 ∷ 8 ∷ 4 ∷ 5 ∷ 3 ∷ 7 ∷ 4 ∷ 6 ∷ 8 ∷ 6 ∷ 1 ∷ 7 ∷ [])) (Refused (UpdateInProgress)) ([])) ×
@@ -222,12 +222,12 @@ c15 :
 unfolding count zeros overwrite resize growMemory requiredPages normalized within merge insert add around piece remove flatRuns additions add_one remain plan put refill tabulate add_number_if span grown_numbers image_byte image_page push_run raw over_byte budget_bytes raised touch blank copy stretch patch finish grow grow_to chop tail truncated whole_page over_write written fresh look_up sized passing marked try_touch try_patch try_finish try_grow try_grow_to try_tail try_chop try_truncate try_write frame_count entry_count wiped cached short_buffers view overlay_of put_back dirty_page stored small_codec small_sum small_decode small_runs small_load small_fresh importing stale refreshing marks after_commit after_import_begin after_import_chunk after_import_cancel after_import_finish after_refresh after_refresh_step short store_plan no_overlay image_bytes unchanged planned_runs commit_over restore do_import_begin do_import_chunk do_import_finish do_import_cancel do_export image_sum do_checksum do_refresh refresh_from do_refresh_step store outside open_image closing open'
 c15 = (refl, (refl, (refl, (refl, (refl, (refl, (refl, (refl))))))))
 
--- importFinish: 11
--- importFinish: 12
--- importFinish: 23
--- importFinish: 24
--- importFinish: 35
--- importFinish: accepted
+-- import_finish: 11
+-- import_finish: 12
+-- import_finish: 23
+-- import_finish: 24
+-- import_finish: 35
+-- import_finish: accepted
 c16 :
     (store 4 24 2 3 199 small_codec (state 5 (of_fields magic 8 2 (88 ∷ 0 ∷ 0 ∷ 0 ∷ 0 ∷ 0 ∷ 0 ∷ 0 ∷ 0 ∷ 0 ∷ 0 ∷ 0 ∷ 24 ∷ 0 ∷ 22 ∷ 8 ∷ 1 ∷ 32 ∷ [])) false (overlay 0 0 0 0 (0 ∷ 0 ∷ []) 0 (budget false 0 0 0 0 0))) (lent (88 ∷ 0 ∷ 0 ∷ 0 ∷ 0 ∷ 0 ∷ 0 ∷ 0 ∷ 0 ∷ 0 ∷ 0 ∷ 0 ∷ 24 ∷ 0 ∷ 22 ∷ 8 ∷ 1 ∷ 32 ∷ 0 ∷ 22 ∷ zeros 100) (5 ∷ 7 ∷ 3 ∷ 8 ∷ 2 ∷ 4 ∷ 4 ∷ 1 ∷ 2 ∷ 4 ∷ 3 ∷ 3 ∷ 6 ∷ 2 ∷ 1 ∷ 4 ∷ []) (zeros 4) (8 ∷ 7 ∷ 4 ∷ 4 ∷ 8 ∷ 6 ∷ 3 ∷ 5 ∷ []) (zeros 18) (zeros 24)) (import_finish) ≡ out (state 5 (of_fields magic 8 2 (88 ∷ 0 ∷ 0 ∷ 0 ∷ 0 ∷ 0 ∷ 0 ∷ 0 ∷ 0 ∷ 0 ∷ 0 ∷ 0 ∷ 24 ∷ 0 ∷ 22 ∷ 8 ∷ 1 ∷ 32 ∷ [])) false (overlay 0 0 0 0 (0 ∷ 0 ∷ []) 0 (budget false 0 0 0 0 0))) (lent (88 ∷ 0 ∷ 0 ∷ 0 ∷ 0 ∷ 0 ∷ 0 ∷ 0 ∷ 0 ∷ 0 ∷ 0 ∷ 0 ∷ 24 ∷ 0 ∷ 22 ∷ 8 ∷ 1 ∷ 32 ∷ 0 ∷ 22 ∷ zeros 100) (5 ∷ 7 ∷ 3 ∷ 8 ∷ 2 ∷ 4 ∷ 4 ∷ 1 ∷ 2 ∷ 4 ∷ 3 ∷ 3 ∷ 6 ∷ 2 ∷ 1 ∷ 4 ∷ []) (zeros 4) (8 ∷ 7 ∷ 4 ∷ 4 ∷ 8 ∷ 6 ∷ 3 ∷ 5 ∷ []) (zeros 18) (zeros 24)) (Refused (ImportNotStarted)) ([])) ×
     ((store 2 24 3 3 95 small_codec (state 1 (of_fields magic 8 2 (0 ∷ 0 ∷ 1 ∷ 2 ∷ 0 ∷ 0 ∷ 0 ∷ 0 ∷ 0 ∷ 0 ∷ 0 ∷ 0 ∷ 24 ∷ 0 ∷ 0 ∷ 8 ∷ 1 ∷ 200 ∷ [])) true (overlay 0 0 0 0 (zeros 3) 0 (budget false 0 0 0 0 0))) (lent (0 ∷ 0 ∷ 1 ∷ 2 ∷ 0 ∷ 0 ∷ 0 ∷ 0 ∷ 0 ∷ 0 ∷ 0 ∷ 0 ∷ 24 ∷ 0 ∷ 0 ∷ 8 ∷ 1 ∷ 200 ∷ 0 ∷ 20 ∷ 0 ∷ 255 ∷ 226 ∷ 1 ∷ zeros 25) (zeros 21) (zeros 12) (1 ∷ 6 ∷ 5 ∷ 6 ∷ 5 ∷ 5 ∷ []) (zeros 9) (zeros 48)) (import_finish) ≡ out (state 1 (of_fields magic 8 2 (0 ∷ 0 ∷ 1 ∷ 2 ∷ 0 ∷ 0 ∷ 0 ∷ 0 ∷ 0 ∷ 0 ∷ 0 ∷ 0 ∷ 24 ∷ 0 ∷ 0 ∷ 8 ∷ 1 ∷ 200 ∷ [])) true (overlay 0 0 0 0 (zeros 3) 0 (budget false 0 0 0 0 0))) (lent (0 ∷ 0 ∷ 1 ∷ 2 ∷ 0 ∷ 0 ∷ 0 ∷ 0 ∷ 0 ∷ 0 ∷ 0 ∷ 0 ∷ 24 ∷ 0 ∷ 0 ∷ 8 ∷ 1 ∷ 200 ∷ 0 ∷ 20 ∷ 0 ∷ 255 ∷ 226 ∷ 1 ∷ zeros 25) (zeros 21) (zeros 12) (1 ∷ 6 ∷ 5 ∷ 6 ∷ 5 ∷ 5 ∷ []) (zeros 9) (zeros 48)) (Refused (UpdateInProgress)) ([])) ×
@@ -275,11 +275,11 @@ c20 :
 unfolding count zeros overwrite resize growMemory requiredPages normalized within merge insert add around piece remove flatRuns additions add_one remain plan put refill tabulate add_number_if span grown_numbers image_byte image_page push_run raw over_byte budget_bytes raised touch blank copy stretch patch finish grow grow_to chop tail truncated whole_page over_write written fresh look_up sized passing marked try_touch try_patch try_finish try_grow try_grow_to try_tail try_chop try_truncate try_write frame_count entry_count wiped cached short_buffers view overlay_of put_back dirty_page stored small_codec small_sum small_decode small_runs small_load small_fresh importing stale refreshing marks after_commit after_import_begin after_import_chunk after_import_cancel after_import_finish after_refresh after_refresh_step short store_plan no_overlay image_bytes unchanged planned_runs commit_over restore do_import_begin do_import_chunk do_import_finish do_import_cancel do_export image_sum do_checksum do_refresh refresh_from do_refresh_step store outside open_image closing open'
 c20 = (refl, (refl, (refl)))
 
--- refreshStep: 10
--- refreshStep: 12
--- refreshStep: 25
--- refreshStep: 35
--- refreshStep: accepted
+-- refresh_step: 10
+-- refresh_step: 12
+-- refresh_step: 25
+-- refresh_step: 35
+-- refresh_step: accepted
 c21 :
     (store 4 24 2 3 199 small_codec (state 2 (of_fields magic 8 2 (0 ∷ 5 ∷ 0 ∷ 1 ∷ 1 ∷ 198 ∷ 0 ∷ 4 ∷ 48 ∷ 0 ∷ 0 ∷ 0 ∷ 48 ∷ 0 ∷ 0 ∷ 8 ∷ 3 ∷ 8 ∷ [])) false (overlay 0 0 0 0 (0 ∷ 0 ∷ []) 0 (budget false 0 0 0 0 0))) (lent (0 ∷ 5 ∷ 0 ∷ 1 ∷ 1 ∷ 198 ∷ 0 ∷ 4 ∷ 48 ∷ 0 ∷ 0 ∷ 0 ∷ 48 ∷ 0 ∷ 0 ∷ 8 ∷ 3 ∷ 8 ∷ 0 ∷ 3 ∷ 9 ∷ 11 ∷ 14 ∷ 17 ∷ 255 ∷ 241 ∷ 7 ∷ 0 ∷ 0 ∷ 246 ∷ 1 ∷ 1 ∷ 7 ∷ 7 ∷ 3 ∷ 1 ∷ 7 ∷ 233 ∷ 7 ∷ 1 ∷ 139 ∷ 1 ∷ 7 ∷ 1 ∷ 7 ∷ 7 ∷ 1 ∷ 255 ∷ []) (zeros 8) (0 ∷ 0 ∷ []) (7 ∷ 1 ∷ 3 ∷ 1 ∷ 3 ∷ 3 ∷ 4 ∷ 4 ∷ []) (zeros 4) (zeros 16)) (refresh_step 13) ≡ out (state 2 (of_fields magic 8 2 (0 ∷ 5 ∷ 0 ∷ 1 ∷ 1 ∷ 198 ∷ 0 ∷ 4 ∷ 48 ∷ 0 ∷ 0 ∷ 0 ∷ 48 ∷ 0 ∷ 0 ∷ 8 ∷ 3 ∷ 8 ∷ [])) false (overlay 0 0 0 0 (0 ∷ 0 ∷ []) 0 (budget false 0 0 0 0 0))) (lent (0 ∷ 5 ∷ 0 ∷ 1 ∷ 1 ∷ 198 ∷ 0 ∷ 4 ∷ 48 ∷ 0 ∷ 0 ∷ 0 ∷ 48 ∷ 0 ∷ 0 ∷ 8 ∷ 3 ∷ 8 ∷ 0 ∷ 3 ∷ 9 ∷ 11 ∷ 14 ∷ 17 ∷ 255 ∷ 241 ∷ 7 ∷ 0 ∷ 0 ∷ 246 ∷ 1 ∷ 1 ∷ 7 ∷ 7 ∷ 3 ∷ 1 ∷ 7 ∷ 233 ∷ 7 ∷ 1 ∷ 139 ∷ 1 ∷ 7 ∷ 1 ∷ 7 ∷ 7 ∷ 1 ∷ 255 ∷ []) (zeros 8) (0 ∷ 0 ∷ []) (7 ∷ 1 ∷ 3 ∷ 1 ∷ 3 ∷ 3 ∷ 4 ∷ 4 ∷ []) (zeros 4) (zeros 16)) (Refused (ImportAlreadyStarted)) ([])) ×
     ((store 2 24 2 3 199 small_codec (state 1 (of_fields magic 8 2 (0 ∷ 0 ∷ 0 ∷ 0 ∷ 0 ∷ 0 ∷ 0 ∷ 0 ∷ 0 ∷ 0 ∷ 0 ∷ 0 ∷ 24 ∷ 0 ∷ 0 ∷ 8 ∷ 0 ∷ 53 ∷ [])) true (overlay 0 10 2 4 (0 ∷ 0 ∷ []) 0 (budget false 0 0 0 0 0))) (lent (0 ∷ 0 ∷ 0 ∷ 0 ∷ 0 ∷ 0 ∷ 0 ∷ 0 ∷ 0 ∷ 0 ∷ 0 ∷ 0 ∷ 24 ∷ 0 ∷ 0 ∷ 8 ∷ 0 ∷ 53 ∷ zeros 102) (zeros 4) (0 ∷ 4 ∷ []) (zeros 4) (0 ∷ 48 ∷ 5 ∷ 48 ∷ 1 ∷ 5 ∷ 1 ∷ 5 ∷ []) (zeros 16)) (refresh_step 199) ≡ out (state 1 (of_fields magic 8 2 (0 ∷ 0 ∷ 0 ∷ 0 ∷ 0 ∷ 0 ∷ 0 ∷ 0 ∷ 0 ∷ 0 ∷ 0 ∷ 0 ∷ 24 ∷ 0 ∷ 0 ∷ 8 ∷ 0 ∷ 53 ∷ [])) true (overlay 0 10 2 4 (0 ∷ 0 ∷ []) 0 (budget false 0 0 0 0 0))) (lent (0 ∷ 0 ∷ 0 ∷ 0 ∷ 0 ∷ 0 ∷ 0 ∷ 0 ∷ 0 ∷ 0 ∷ 0 ∷ 0 ∷ 24 ∷ 0 ∷ 0 ∷ 8 ∷ 0 ∷ 53 ∷ zeros 102) (zeros 4) (0 ∷ 4 ∷ []) (zeros 4) (0 ∷ 48 ∷ 5 ∷ 48 ∷ 1 ∷ 5 ∷ 1 ∷ 5 ∷ []) (zeros 16)) (Refused (UpdateInProgress)) ([])) ×
