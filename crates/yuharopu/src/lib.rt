@@ -1,5 +1,5 @@
-// The C functions: a host "calls the library through C functions on numbers and byte slices". Each takes any argument; a slice passes as a
-// pointer and a number of elements.
+// The C functions: a host "calls the library through C functions on numbers and byte slices". Each takes any argument; `yuharopu_c` exports
+// them.
 #![tactic(auto)]
 
 mod transfer_calls;
@@ -30,30 +30,26 @@ const ZERO_EXTENT_LIMIT_EXCEEDED: u64 = 31;
 
 const BUFFER_TOO_SHORT: u64 = 35;
 
-#[unsafe(no_mangle)]
-pub extern "C" fn yuharopu_fnv1a64(bytes: &[u8]) -> u64
+pub fn yuharopu_fnv1a64(bytes: &[u8]) -> u64
     ensures { result ≡ fnv1a64 bytes.now }
 {
     meta::fnv1a64(bytes)
 }
 
-#[unsafe(no_mangle)]
-pub extern "C" fn yuharopu_fold_fnv1a64(hash: u64, bytes: &[u8]) -> u64
+pub fn yuharopu_fold_fnv1a64(hash: u64, bytes: &[u8]) -> u64
     ensures { result ≡ fold hash bytes.now }
 {
     meta::fold_fnv1a64(hash, bytes)
 }
 
-#[unsafe(no_mangle)]
-pub extern "C" fn yuharopu_page_count_for_size(size: u64) -> u64
+pub fn yuharopu_page_count_for_size(size: u64) -> u64
     ensures { result ≡ count 16384 size }
 {
     let pages = config::page_count_for_size(size);
     pages.0
 }
 
-#[unsafe(no_mangle)]
-pub extern "C" fn yuharopu_grow(mem: &mut [u8], count: u64, end: u64, pages: &mut [u64]) -> u64
+pub fn yuharopu_grow(mem: &mut [u8], count: u64, end: u64, pages: &mut [u64]) -> u64
     ensures { grew result mem.new pages.new ≡ grow_pages mem.old count end pages.old }
 {
     if pages.len() < 2 {
@@ -72,8 +68,7 @@ pub extern "C" fn yuharopu_grow(mem: &mut [u8], count: u64, end: u64, pages: &mu
     }
 }
 
-#[unsafe(no_mangle)]
-pub extern "C" fn yuharopu_superblock_fresh(fields: &mut [u64]) -> u64
+pub fn yuharopu_superblock_fresh(fields: &mut [u64]) -> u64
     ensures { answer result fields.new ≡ fresh_fields fields.old }
 {
     if fields.len() < Superblock::NUMBERS {
@@ -84,8 +79,7 @@ pub extern "C" fn yuharopu_superblock_fresh(fields: &mut [u64]) -> u64
     0
 }
 
-#[unsafe(no_mangle)]
-pub extern "C" fn yuharopu_superblock_load(block: &[u8], fields: &mut [u64]) -> u64
+pub fn yuharopu_superblock_load(block: &[u8], fields: &mut [u64]) -> u64
     ensures { answer result fields.new ≡ load_fields block.now fields.old }
 {
     if block.len() < Superblock::ENCODED_LEN {
@@ -110,8 +104,7 @@ pub extern "C" fn yuharopu_superblock_load(block: &[u8], fields: &mut [u64]) -> 
     }
 }
 
-#[unsafe(no_mangle)]
-pub extern "C" fn yuharopu_superblock_store(mem: &mut [u8], fields: &[u64], runs: &[u64]) -> u64
+pub fn yuharopu_superblock_store(mem: &mut [u8], fields: &[u64], runs: &[u64]) -> u64
     ensures { answer result mem.new ≡ store_fields mem.old fields.now runs.now }
 {
     if mem.len() < Superblock::ENCODED_LEN {
@@ -133,8 +126,7 @@ pub extern "C" fn yuharopu_superblock_store(mem: &mut [u8], fields: &[u64], runs
     0
 }
 
-#[unsafe(no_mangle)]
-pub extern "C" fn yuharopu_plan(
+pub fn yuharopu_plan(
     work: &mut [u64],
     extents: &[u64],
     old_size: u64,

@@ -7,8 +7,7 @@ use store::Answer;
 
 const BUFFER_TOO_SHORT: u64 = 35;
 
-#[unsafe(no_mangle)]
-pub extern "C" fn yuharopu_begin_import(
+pub fn yuharopu_begin_import(
     state: &mut [u8],
     mem: &mut [u8],
     total: u64,
@@ -24,8 +23,7 @@ pub extern "C" fn yuharopu_begin_import(
     encoding::show(step, state, answer)
 }
 
-#[unsafe(no_mangle)]
-pub extern "C" fn yuharopu_import_chunk(
+pub fn yuharopu_import_chunk(
     state: &mut [u8],
     mem: &mut [u8],
     offset: u64,
@@ -41,12 +39,7 @@ pub extern "C" fn yuharopu_import_chunk(
     encoding::show(step, state, answer)
 }
 
-#[unsafe(no_mangle)]
-pub extern "C" fn yuharopu_finish_import(
-    state: &mut [u8],
-    mem: &mut [u8],
-    answer: &mut [u64],
-) -> u64
+pub fn yuharopu_finish_import(state: &mut [u8], mem: &mut [u8], answer: &mut [u64]) -> u64
     ensures { CallsOnMemory state.old answer.old mem.old import_finish result state.new answer.new mem.new }
 {
     if encoding::are_short(state, answer) {
@@ -56,12 +49,7 @@ pub extern "C" fn yuharopu_finish_import(
     encoding::show(step, state, answer)
 }
 
-#[unsafe(no_mangle)]
-pub extern "C" fn yuharopu_cancel_import(
-    state: &mut [u8],
-    mem: &mut [u8],
-    answer: &mut [u64],
-) -> u64
+pub fn yuharopu_cancel_import(state: &mut [u8], mem: &mut [u8], answer: &mut [u64]) -> u64
     ensures { CallsOnMemory state.old answer.old mem.old import_cancel result state.new answer.new mem.new }
 {
     if encoding::are_short(state, answer) {
@@ -71,8 +59,7 @@ pub extern "C" fn yuharopu_cancel_import(
     encoding::show(step, state, answer)
 }
 
-#[unsafe(no_mangle)]
-pub extern "C" fn yuharopu_export_chunk(
+pub fn yuharopu_export_chunk(
     state: &[u8],
     mem: &[u8],
     offset: u64,
@@ -89,8 +76,7 @@ pub extern "C" fn yuharopu_export_chunk(
     encoding::tell(told, answer)
 }
 
-#[unsafe(no_mangle)]
-pub extern "C" fn yuharopu_checksum(state: &[u8], mem: &[u8], answer: &mut [u64]) -> u64
+pub fn yuharopu_checksum(state: &[u8], mem: &[u8], answer: &mut [u64]) -> u64
     ensures { AsksOnMemory state.now answer.old mem.now checksum result answer.new [] }
 {
     if encoding::are_short(state, answer) {
@@ -101,12 +87,7 @@ pub extern "C" fn yuharopu_checksum(state: &[u8], mem: &[u8], answer: &mut [u64]
     encoding::tell(told, answer)
 }
 
-#[unsafe(no_mangle)]
-pub extern "C" fn yuharopu_refresh_checksum(
-    state: &mut [u8],
-    mem: &mut [u8],
-    answer: &mut [u64],
-) -> u64
+pub fn yuharopu_refresh_checksum(state: &mut [u8], mem: &mut [u8], answer: &mut [u64]) -> u64
     ensures { CallsOnMemory state.old answer.old mem.old refresh result state.new answer.new mem.new }
 {
     if encoding::are_short(state, answer) {
@@ -116,8 +97,7 @@ pub extern "C" fn yuharopu_refresh_checksum(
     encoding::show(step, state, answer)
 }
 
-#[unsafe(no_mangle)]
-pub extern "C" fn yuharopu_refresh_checksum_chunk(
+pub fn yuharopu_refresh_checksum_chunk(
     state: &mut [u8],
     mem: &mut [u8],
     n: u64,

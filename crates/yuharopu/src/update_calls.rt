@@ -11,13 +11,7 @@ use store::Answer;
 
 const BUFFER_TOO_SHORT: u64 = 35;
 
-#[unsafe(no_mangle)]
-pub extern "C" fn yuharopu_open(
-    state: &mut [u8],
-    mem: &mut [u8],
-    count: u64,
-    answer: &mut [u64],
-) -> u64
+pub fn yuharopu_open(state: &mut [u8], mem: &mut [u8], count: u64, answer: &mut [u64]) -> u64
     ensures { open_called result state.new mem.new answer.new ≡ open_at state.old answer.old mem.old count }
 {
     if encoding::are_short(state, answer) {
@@ -28,8 +22,7 @@ pub extern "C" fn yuharopu_open(
 }
 
 // A limit that is not 0 is one.
-#[unsafe(no_mangle)]
-pub extern "C" fn yuharopu_begin_update(
+pub fn yuharopu_begin_update(
     state: &mut [u8],
     limited: u64,
     max_pages: u64,
@@ -45,8 +38,7 @@ pub extern "C" fn yuharopu_begin_update(
     encoding::show(step, state, answer)
 }
 
-#[unsafe(no_mangle)]
-pub extern "C" fn yuharopu_file_size(state: &[u8], answer: &mut [u64]) -> u64
+pub fn yuharopu_file_size(state: &[u8], answer: &mut [u64]) -> u64
     ensures { AsksAlone state.now answer.old file_size result answer.new }
 {
     if encoding::are_short(state, answer) {
@@ -56,8 +48,7 @@ pub extern "C" fn yuharopu_file_size(state: &[u8], answer: &mut [u64]) -> u64
     encoding::tell(Answer::Size(size), answer)
 }
 
-#[unsafe(no_mangle)]
-pub extern "C" fn yuharopu_read_at(
+pub fn yuharopu_read_at(
     state: &mut [u8],
     mem: &[u8],
     frames: &[u8],
@@ -87,8 +78,7 @@ pub extern "C" fn yuharopu_read_at(
     encoding::show(step, state, answer)
 }
 
-#[unsafe(no_mangle)]
-pub extern "C" fn yuharopu_write_at(
+pub fn yuharopu_write_at(
     state: &mut [u8],
     mem: &mut [u8],
     frames: &mut [u8],
@@ -120,8 +110,7 @@ pub extern "C" fn yuharopu_write_at(
     encoding::show(step, state, answer)
 }
 
-#[unsafe(no_mangle)]
-pub extern "C" fn yuharopu_truncate(
+pub fn yuharopu_truncate(
     state: &mut [u8],
     mem: &mut [u8],
     frames: &mut [u8],
@@ -151,8 +140,7 @@ pub extern "C" fn yuharopu_truncate(
     encoding::show(step, state, answer)
 }
 
-#[unsafe(no_mangle)]
-pub extern "C" fn yuharopu_commit_update(
+pub fn yuharopu_commit_update(
     state: &mut [u8],
     mem: &mut [u8],
     frames: &mut [u8],
@@ -180,8 +168,7 @@ pub extern "C" fn yuharopu_commit_update(
     encoding::show(step, state, answer)
 }
 
-#[unsafe(no_mangle)]
-pub extern "C" fn yuharopu_rollback_update(
+pub fn yuharopu_rollback_update(
     state: &mut [u8],
     frames: &mut [u8],
     numbers: &mut [u64],
@@ -199,8 +186,7 @@ pub extern "C" fn yuharopu_rollback_update(
 }
 
 // The dirty page goes in front of `dst`, as far as that reaches.
-#[unsafe(no_mangle)]
-pub extern "C" fn yuharopu_dirty_page(
+pub fn yuharopu_dirty_page(
     state: &[u8],
     frames: &[u8],
     numbers: &[u64],

@@ -122,7 +122,9 @@ pub extern "C" fn yuharopu_read_at(
     ensures { CallsToRead state.old answer.old mem.now (bufs frames.now numbers.now clean.old «record».now) offset dst.old
         result state.new answer.new (bufs frames.now numbers.now clean.new «record».now) dst.new }
 {
-    yuharopu::yuharopu_read_at(state, mem, frames, numbers, clean, record, offset, dst, answer)
+    yuharopu::yuharopu_read_at(
+        state, mem, frames, numbers, clean, record, offset, dst, answer,
+    )
 }
 
 #[unsafe(no_mangle)]
@@ -141,7 +143,9 @@ pub extern "C" fn yuharopu_write_at(
     ensures { called result state.new (lent mem.new (bufs frames.new numbers.new clean.new «record».new) work.new) answer.new []
         ≡ call state.old answer.old (lent mem.old (bufs frames.old numbers.old clean.old «record».old) work.old) (write offset bytes.now) }
 {
-    yuharopu::yuharopu_write_at(state, mem, frames, numbers, clean, record, work, offset, bytes, answer)
+    yuharopu::yuharopu_write_at(
+        state, mem, frames, numbers, clean, record, work, offset, bytes, answer,
+    )
 }
 
 #[unsafe(no_mangle)]
@@ -159,7 +163,9 @@ pub extern "C" fn yuharopu_truncate(
     ensures { called result state.new (lent mem.new (bufs frames.new numbers.new clean.new «record».new) work.new) answer.new []
         ≡ call state.old answer.old (lent mem.old (bufs frames.old numbers.old clean.old «record».old) work.old) (truncate size) }
 {
-    yuharopu::yuharopu_truncate(state, mem, frames, numbers, clean, record, work, size, answer)
+    yuharopu::yuharopu_truncate(
+        state, mem, frames, numbers, clean, record, work, size, answer,
+    )
 }
 
 #[unsafe(no_mangle)]
