@@ -144,6 +144,38 @@ made_of (yuharopu_refresh_checksum_chunk x b w) =
     made state.now answer.now (lent mem.now b w) (refresh_step most)
     x.gave state'.now answer'.now (lent mem'.now b w) []
 
+abbrev pub made_all : List CCall → List Made
+made_all [] = []
+made_all (c ∷ cs) = made_of c ∷ made_all cs
+
+-- ## Opening
+
+abbrev pub COpened : Type 0
+COpened = CallOf 3 ps-open r-open open-promises
+
+-- what was passed: the state's bytes, memory, the count of stable pages, and the list for the answer
+abbrev pub state_passed : COpened → List ℕ
+state_passed x = x.passed.0.now
+
+abbrev pub memory_passed : COpened → List ℕ
+memory_passed x = x.passed.1.0.now
+
+abbrev pub count_passed : COpened → ℕ
+count_passed x = x.passed.1.1.0
+
+abbrev pub answer_passed : COpened → List ℕ
+answer_passed x = x.passed.1.1.1.0.now
+
+-- and what was left
+abbrev pub state_left : COpened → List ℕ
+state_left x = x.left.0.now
+
+abbrev pub memory_left : COpened → List ℕ
+memory_left x = x.left.1.0.now
+
+abbrev pub answer_left : COpened → List ℕ
+answer_left x = x.left.1.1.1.0.now
+
 -- THE TIE: the contract of each of the fifteen functions is the one equation
 pub by_c : (c : CCall) → ByC (made_of c)
 by_c (yuharopu_begin_update x l) = x.promised l
@@ -181,41 +213,9 @@ typed (yuharopu_checksum x b w) = tt
 typed (yuharopu_refresh_checksum x b w) = tt
 typed (yuharopu_refresh_checksum_chunk x b w) = tt
 
-abbrev pub made_all : List CCall → List Made
-made_all [] = []
-made_all (c ∷ cs) = made_of c ∷ made_all cs
-
 pub all_by_c : (cs : List CCall) → AllByC (made_all cs)
 all_by_c [] = tt
 all_by_c (c ∷ cs) = ((by_c c, typed c), all_by_c cs)
-
--- ## Opening
-
-abbrev pub COpened : Type 0
-COpened = CallOf 3 ps-open r-open open-promises
-
--- what was passed: the state's bytes, memory, the count of stable pages, and the list for the answer
-abbrev pub state_passed : COpened → List ℕ
-state_passed x = x.passed.0.now
-
-abbrev pub memory_passed : COpened → List ℕ
-memory_passed x = x.passed.1.0.now
-
-abbrev pub count_passed : COpened → ℕ
-count_passed x = x.passed.1.1.0
-
-abbrev pub answer_passed : COpened → List ℕ
-answer_passed x = x.passed.1.1.1.0.now
-
--- and what was left
-abbrev pub state_left : COpened → List ℕ
-state_left x = x.left.0.now
-
-abbrev pub memory_left : COpened → List ℕ
-memory_left x = x.left.1.0.now
-
-abbrev pub answer_left : COpened → List ℕ
-answer_left x = x.left.1.1.1.0.now
 
 -- THE TIE of opening
 pub open_by_c : (x : COpened) → open_called x.gave (state_left x) (memory_left x) (answer_left x) ≡ open_at (state_passed x) (answer_passed x) (memory_passed x) (count_passed x)
