@@ -36,7 +36,8 @@ use Rattle.store.specs.declared.State.{State}
 use Rattle.store.specs.declared.Answer.TheVariants.{Done, Refused}
 use Rattle.store.specs.Blocks.{after_commit}
 use Rattle.store.specs.Codec.{Codec, real_codec, sealed, stored, real_sealed, real_stored}
-use Rattle.store.specs.Plan.{store_plan, store_plan_lem, required as end}
+use Rattle.store.specs.Plan.{store_plan, required as end}
+use Rattle.store.proofs.PlanLaws.{store_plan_lem}
 use Rattle.store.specs.Store.{write_pages}
 use Rattle.commit.specs.Committed.{Outcome, outcome, publish_to, settle_to, commit_to}
 use Rattle.commit.specs.declared.Committed.{Committed}

@@ -36,9 +36,9 @@ use Rattle.store.specs.Plan.{store_plan}
 use Rattle.store.specs.Store.{resting, refuse, act, swept, direct, no_overlay, budget_of, image, image_bytes, unchanged, planned_runs, settle, commit_over, store, runs_of}
 use Rattle.store.specs.Lawful.{Fits}
 use Rattle.store.specs.RealCodec.{real_lawful}
-use Rattle.store.specs.MemoryLaws.{stored-length}
+use Rattle.store.proofs.MemoryLaws.{stored-length}
 use Rattle.store.specs.Opening.{Opened, outside, not_opened, open_loaded, open_image, open'}
-use Rattle.store.specs.ClosingLaws.{open_unmarked}
+use Rattle.store.proofs.ClosingLaws.{open_unmarked}
 use Rattle.examples.specs.FreshRows.{real, after, started}
 
 -- n runs of one page each, a page apart, from page a on

@@ -22,7 +22,7 @@ use Rattle.store.specs.declared.Step.{Step}
 use Rattle.store.specs.declared.Answer.TheVariants.{Done, Refused}
 use Rattle.store.specs.Codec.{real_codec, stored}
 use Rattle.store.specs.Store.{ended}
-use Rattle.store.specs.MemoryLaws.{grow_cases}
+use Rattle.store.proofs.MemoryLaws.{grow_cases}
 use Rattle.store.specs.Blocks.{importing}
 use Rattle.store.specs.Calls.{import_cancel}
 use Rattle.store.specs.Opening.{opened_by, no_block, outside, not_opened, open_fresh, open_loaded, open_image, closing, closing_marked, closing_unmarked, open', open_is}

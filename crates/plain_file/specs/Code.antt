@@ -11,7 +11,7 @@ use Rattle.store.specs.Calls.{Call, Lent, Out, number}
 use Rattle.store.specs.Blocks.{importing}
 use Rattle.store.specs.Opening.{Opened, open'}
 use Rattle.store.specs.RealCodec.{real_lawful}
-use Rattle.store.specs.ClosingLaws.{no_import, refused_unchanged}
+use Rattle.store.proofs.ClosingLaws.{no_import, refused_unchanged}
 use Rattle.transfer.specs.OnMemory.{lent}
 use Rattle.lending.specs.Lending.{calls}
 use Rattle.opening.specs.Opened.{opened}

@@ -14,9 +14,9 @@ use Rattle.store.specs.Calls.{Call, Lent, Out, uses, Mode, mode_if, mode_of, sho
 use Rattle.store.specs.Store.{refuse, act, swept, store}
 use Rattle.store.specs.Opening.{open'}
 use Rattle.store.specs.Lawful.{Lawful, Good}
-use Rattle.store.specs.OpeningLaws.{Opens}
-use Rattle.store.specs.ClosingLaws.{opens}
-use Rattle.store.specs.BufferLengths.{count_lent, buffers_again}
+use Rattle.store.proofs.OpeningLaws.{Opens}
+use Rattle.store.proofs.ClosingLaws.{opens}
+use Rattle.store.proofs.BufferLengths.{count_lent, buffers_again}
 use Rattle.store.specs.RealCodec.{real_lawful}
 use Rattle.plain_file.specs.Plain.{Plain, closed, drafting, file_of, plain_step}
 use Rattle.plain_file.specs.Claim.{Owed, Nothing, Enough, Lends, leaves, Turn, told, at_begin, Word, Promise, Claim}

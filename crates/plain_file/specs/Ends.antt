@@ -34,11 +34,12 @@ use Rattle.store.specs.declared.Answer.{Answer}
 use Rattle.store.specs.declared.Answer.TheVariants.{Done, Refused}
 use Rattle.store.specs.Codec.{Codec, sealed, stored}
 use Rattle.store.specs.Calls.{Lent, Out, out, number, Mode, idle, update, mode_of}
-use Rattle.store.specs.Plan.{required, store_plan_lem}
+use Rattle.store.specs.Plan.{required}
+use Rattle.store.proofs.PlanLaws.{store_plan_lem}
 use Rattle.store.specs.Store.{runs_of, image, over, publish, settle, unchanged, planned_runs, commit_over}
 use Rattle.store.specs.Lawful.{Lawful, Good}
-use Rattle.store.specs.MemoryLaws.{Reaches, grow_cases}
-use Rattle.store.specs.CommitLaws.{new_block, flushed, after, commit_good, commit_byte, after_size, after_base, after_count, after_runs}
+use Rattle.store.proofs.MemoryLaws.{Reaches, grow_cases}
+use Rattle.store.proofs.CommitLaws.{new_block, flushed, after, commit_good, commit_byte, after_size, after_base, after_count, after_runs}
 use Rattle.plain_file.specs.Plain.{File, Draft, Verdict, fine, runs31, range20, ceiling32, verdict_number, farthest, judge, ground, file_ground, taken, file_of}
 use Rattle.plain_file.specs.Invariant.{Draws}
 

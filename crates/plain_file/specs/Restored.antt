@@ -18,10 +18,10 @@ use Rattle.store.specs.Calls.{number}
 use Rattle.store.specs.Store.{runs_of}
 use Rattle.store.specs.Opening.{Opened, open_image, open'}
 use Rattle.store.specs.Lawful.{Fits, Lawful, Good}
-use Rattle.store.specs.MemoryLaws.{stored_high}
-use Rattle.store.specs.RestoreLaws.{Carries, cancel_carries, runs_carried, carried, stable_lent}
-use Rattle.store.specs.OpeningLaws.{Opens, image_mem, image_opens}
-use Rattle.store.specs.ClosingLaws.{open_unmarked, open_answer, open_closes}
+use Rattle.store.proofs.MemoryLaws.{stored_high}
+use Rattle.store.proofs.RestoreLaws.{Carries, cancel_carries, runs_carried, carried, stable_lent}
+use Rattle.store.proofs.OpeningLaws.{Opens, image_mem, image_opens}
+use Rattle.store.proofs.ClosingLaws.{open_unmarked, open_answer, open_closes}
 use Rattle.plain_file.specs.Plain.{File, file_of}
 use Rattle.plain_file.specs.Ends.{file_is, file-length, file_base, file_runs, file_byte}
 

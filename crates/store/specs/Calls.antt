@@ -1,6 +1,5 @@
 -- The calls, what each is lent, and what each gives back.
-use Rattle.std.specs.Prelude.{ℕ, ◌+◌, ◌*◌, Bool, true, false, cond, ◌&&◌, ◌||◌, List, [], ltb, length}
-use Rattle.config.specs.declared.refusal.Refusal.{Refusal}
+use Rattle.std.specs.Prelude.{ℕ, ◌+◌, ◌*◌, Bool, true, false, ◌&&◌, ◌||◌, List, [], ltb, length}
 use Rattle.config.specs.Refusals.{numbers_of}
 use Rattle.memory.specs.Bytes.{zeros}
 use Rattle.update.specs.declared.Overlay.{Overlay}

@@ -1,6 +1,6 @@
 -- How a superblock with its runs lies in memory: what the calls need of it. The real one is built of meta's definitions; a small one lets the
 -- calls be run by computation at small sizes.
-use Rattle.std.specs.Prelude.{◌≡◌, refl, ℕ, List, []}
+use Rattle.std.specs.Prelude.{◌≡◌, refl, ℕ, List}
 use Rattle.memory.specs.Bytes.{overwrite}
 use Rattle.meta.specs.declared.superblock.Superblock.{Superblock}
 use Rattle.meta.specs.declared.ZeroExtent.{ZeroExtent}

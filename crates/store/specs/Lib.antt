@@ -6,14 +6,6 @@ pub mod Plan
 pub mod Store
 pub mod Opening
 pub mod Lawful
-pub mod MemoryLaws
-pub mod CommitLaws
-pub mod StoreLaws
-pub mod BufferLengths
 pub mod Tries
-pub mod OnlyShort
 pub mod RealCodec
-pub mod RestoreLaws
-pub mod OpeningLaws
-pub mod ClosingLaws
 pub mod Small

@@ -1,20 +1,19 @@
 -- A small codec: the calls can be run by computation with it, at pages of 2 bytes and stable pages of 24. A field of the superblock, or a number
 -- of a run, takes one element of memory; at most 3 runs; numbers up to 1,000.
-use Rattle.std.specs.Prelude.{◌≡◌, refl, Bool, true, false, List, [], ◌∷◌, ◌++◌, leb, eqb, get_or, take, drop}
-use Rattle.std.proofs.Common.{sym, ap, ◌∙◌, subst, append_assoc, length-append, length-drop, get_or-drop, drop_at, leb-true}
-use Prim.Native.Nat.{ℕ, zero, suc, ◌+◌, ◌-◌, ◌*◌, ◌%◌, ◌≤◌, ◌<◌, min}
+use Rattle.std.specs.Prelude.{◌≡◌, refl, Bool, true, false, List, [], ◌∷◌, ◌++◌, leb, eqb, take, drop}
+use Rattle.std.proofs.Common.{sym, ap, ◌∙◌, append_assoc, length-append, length-drop, get_or-drop, leb-true}
+use Prim.Native.Nat.{ℕ, zero, suc, ◌+◌, ◌*◌, ◌%◌, ◌≤◌, min}
 use native.Mathlib.Omega.{arith}
 use Rattle.std.proofs.Math.ListN.{length}
 use Rattle.config.specs.declared.refusal.Refusal.{Refusal}
 use Rattle.config.specs.declared.refusal.Refusal.TheVariants.{MetaChecksumMismatch}
-use Rattle.memory.specs.Bytes.{overwrite}
-use Rattle.memory.specs.Laws.{overwrite_in, overwrite_mid, length-overwrite}
+use Rattle.memory.specs.Laws.{overwrite_mid}
 use Rattle.meta.specs.declared.superblock.Superblock.{Superblock}
 use Rattle.meta.specs.declared.ZeroExtent.{ZeroExtent}
 use Rattle.meta_load.specs.declared.Loaded.{Loaded}
 use Rattle.meta_load.specs.declared.Loaded.TheVariants.{Block, Refused}
 use Rattle.words.specs.Words.{Bytes}
-use Rattle.meta.specs.Runs.{run, runs_of, numbers_of, normalized}
+use Rattle.meta.specs.Runs.{runs_of, numbers_of, normalized}
 use Rattle.meta.specs.Block.{magic, fields_of, other_fields, of_fields, sealed_by}
 use Rattle.meta_load.specs.Load.{pick}
 use Rattle.runs.specs.Flat.{runs_in}
@@ -23,7 +22,7 @@ use Rattle.update.specs.ListLaws.{take-alike}
 use Rattle.update.specs.PageLaws.{EndsBy}
 use Rattle.store.specs.Codec.{Codec, stored}
 use Rattle.store.specs.Blocks.{importing}
-use Rattle.store.specs.Lawful.{Fits, LoadedAs, Lawful, Alike}
+use Rattle.store.specs.Lawful.{LoadedAs, Lawful, Alike}
 
 abbrev pub small_hash : ℕ → List ℕ → ℕ
 small_hash h [] = h

@@ -1,10 +1,10 @@
 -- Each call of the store, for any state and any bytes: the answer, the state, memory and every lent slice at the end. 35 first, then 01's tests in
 -- 01's order, then the effects in the source's order.
-use Rattle.std.specs.Prelude.{ℕ, zero, suc, ◌+◌, ◌-◌, ◌*◌, ◌/◌, max, min, Bool, true, false, not, cond, ◌&&◌, ◌||◌, List, [], ◌∷◌, ◌++◌, ltb, leb, eqb, length, take, drop}
+use Rattle.std.specs.Prelude.{ℕ, ◌+◌, ◌-◌, ◌*◌, max, min, Bool, true, false, not, cond, ◌&&◌, ◌||◌, List, [], ◌∷◌, ltb, leb, eqb, length, take, drop}
 use Rattle.config.specs.Pages.{count}
 use Rattle.config.specs.declared.refusal.Refusal.{Refusal}
 use Rattle.config.specs.declared.refusal.Refusal.TheVariants.{ImportAlreadyStarted, ImportNotStarted, UpdateInProgress, UpdateBegunTwice, OffsetOverflow, ImportOutOfOrder, ImportOutOfBounds, ImportIncomplete, ChecksumMismatch, ChecksumRefreshChunkEmpty, ZeroExtentLimitExceeded, BufferTooShort}
-use Rattle.memory.specs.Bytes.{zeros, overwrite}
+use Rattle.memory.specs.Bytes.{overwrite}
 use Rattle.memory.specs.Growth.{grow_to, stable}
 use Rattle.memory.specs.declared.Growth.{Growth}
 use Rattle.memory.specs.declared.Growth.TheVariants.{Grown, Refused as NotGrown}
@@ -17,14 +17,13 @@ use Rattle.update.specs.Lists.{tabulate, null}
 use Rattle.update.specs.Pages.{Page, page_numbers}
 use Rattle.update.specs.Image.{image_byte}
 use Rattle.update.specs.Update.{Over, fresh, read_over, read_bytes, Tried, accepted, refused, left, try_write, try_truncate, truncate_reach}
-use Rattle.update.specs.Buffers.{Buffers, frame_count, entry_count, wiped, view, overlay_of, put_back, dirty_page}
+use Rattle.update.specs.Buffers.{frame_count, entry_count, wiped, view, overlay_of, put_back, dirty_page}
 use Rattle.store.specs.declared.State.{State}
 use Rattle.store.specs.declared.Answer.{Answer}
 use Rattle.store.specs.declared.Answer.TheVariants.{Done, Size, Read, Exported, Checksum, Refreshed, Refused}
-use Rattle.store.specs.declared.ChecksumRefresh.{ChecksumRefresh}
 use Rattle.store.specs.Codec.{Codec, sealed, stored}
 use Rattle.store.specs.Blocks.{importing, refreshing, after_commit, after_import_begin, after_import_chunk, after_import_cancel, after_import_finish, after_refresh, after_refresh_step}
-use Rattle.store.specs.Calls.{Call, begin, read, write, truncate, commit, rollback, file_size, import_begin, import_chunk, import_finish, import_cancel, export, checksum, refresh, refresh_step, Lent, Out, out, Uses, uses, lent_bytes, Mode, idle, update, mode_of, short, cleared, with_mem, with_buffers}
+use Rattle.store.specs.Calls.{Call, begin, read, write, truncate, commit, rollback, file_size, import_begin, import_chunk, import_finish, import_cancel, export, checksum, refresh, refresh_step, Lent, Out, out, uses, lent_bytes, Mode, idle, update, mode_of, short, cleared, with_mem, with_buffers}
 use Rattle.store.specs.Plan.{store_plan, required}
 
 -- ## States

@@ -1,5 +1,5 @@
 -- What refuses a write or a truncation: the budget, the frames, the record, or an end above the largest number.
-use Rattle.std.specs.Prelude.{◌≡◌, ℕ, zero, suc, ◌+◌, ◌*◌, ◌/◌, true, false, cond, ◌&&◌, List, ltb, leb, eqb}
+use Rattle.std.specs.Prelude.{◌≡◌, ℕ, zero, suc, ◌+◌, ◌*◌, ◌/◌, true, ◌&&◌, List, ltb, leb, eqb}
 use Rattle.std.proofs.Math.Bool.{Bool, not}
 use Rattle.std.proofs.Math.ListN.{length}
 use Rattle.config.specs.Pages.{count}

@@ -18,7 +18,8 @@ use Rattle.update.specs.Lists.{tabulate_from}
 use Rattle.update.specs.Image.{image_in}
 use Rattle.store.specs.declared.State.{State}
 use Rattle.store.specs.declared.Answer.TheVariants.{Done, Refreshed, Refused}
-use Rattle.store.specs.Blocks.{importing, stale, refreshing, marks, marks_importing, marks_stale, marks_refreshing, marks_over, set_flags, set_refresh, set_numbers, after_import_chunk, after_refresh, after_refresh_step}
+use Rattle.store.specs.Blocks.{importing, stale, refreshing, marks, set_flags, set_refresh, set_numbers, after_import_chunk, after_refresh, after_refresh_step}
+use Rattle.store.proofs.BlockLaws.{marks_importing, marks_stale, marks_refreshing, marks_over}
 use Rattle.store.specs.Store.{onward}
 use Rattle.transfer.specs.Steps.{StepOut, step_out, step, restore_to, place_to, chunk_reach, chunk_to, reached, refresh_to, refresh_step_to}
 

@@ -5,10 +5,11 @@ use Rattle.meta.specs.declared.superblock.Superblock.{Superblock}
 use Rattle.meta.specs.declared.ZeroExtent.{ZeroExtent}
 use Rattle.update.specs.ListLaws.{clash}
 use Rattle.store.specs.Codec.{Codec, sealed, stored}
-use Rattle.store.specs.Blocks.{importing, after_import_cancel, Keeps, cancel_keeps, after_cancel, seal_importing}
+use Rattle.store.specs.Blocks.{importing, after_import_cancel}
+use Rattle.store.proofs.BlockLaws.{Keeps, cancel_keeps, after_cancel, seal_importing}
 use Rattle.store.specs.Store.{runs_of}
 use Rattle.store.specs.Lawful.{Fits, Lawful, Good}
-use Rattle.store.specs.MemoryLaws.{stored-length}
+use Rattle.store.proofs.MemoryLaws.{stored-length}
 
 -- the database stays where it is, and an import that is open then is in order
 pub record Carries (S M c : ℕ) (h h' : Superblock) : Type 0 where

@@ -14,7 +14,7 @@ use Rattle.plain_file.specs.Sizes.{plain_of, Lends', leaves', at_begin', choose'
 use Rattle.host_calls.specs.Made.{Made, AllByC}
 use Rattle.host_calls.specs.CCalls.{CCall, made_of, made_all, COpened, memory_passed, state_left, memory_left}
 use Rattle.host_calls.specs.HostClaim.{Untouched, HostReads, HostOwed, live, too_little, plain_after, HostPromise}
-use Rattle.host_calls.specs.Host.{host_demand3}
+use Rattle.host_calls.proofs.Host.{host_demand3}
 
 -- the state's bytes and the plain file after a call; 35 changes nothing
 abbrev pub state_next : List ℕ → Made → List ℕ

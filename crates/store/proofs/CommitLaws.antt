@@ -1,12 +1,12 @@
 -- An accepted commit: the image in the memory that it leaves is in order, and reads as the update did.
-use Rattle.std.specs.Prelude.{◌≡◌, refl, Bool, not, ◌&&◌, ◌||◌, List, [], ◌∷◌, ◌++◌, leb, eqb, length}
+use Rattle.std.specs.Prelude.{◌≡◌, refl, Bool, not, ◌&&◌, ◌||◌, List, [], ◌∷◌, length}
 use Rattle.std.proofs.Math.Path.{sym}
-use Rattle.std.proofs.Common.{ap, ◌∙◌, subst, mul-le-mul_right, arith}
-use Prim.Native.Nat.{ℕ, zero, suc, ◌+◌, ◌-◌, ◌*◌, ◌/◌, ◌%◌, ◌≤◌, ◌<◌, max, min}
-use Rattle.std.proofs.Math.Bool.{true, false, cond, or-true, or-false, and-true, and-false}
+use Rattle.std.proofs.Common.{ap, ◌∙◌, mul-le-mul_right, arith}
+use Prim.Native.Nat.{ℕ, suc, ◌+◌, ◌-◌, ◌*◌, ◌/◌, ◌≤◌, ◌<◌}
+use Rattle.std.proofs.Math.Bool.{true, false, cond, or-true, and-true, and-false}
 use Rattle.std.proofs.Math.Dec.{ltb}
 use Rattle.std.proofs.Math.ListN.{get_or}
-use borrow.Author.Tests.{ltb-true, ltb-false, lt-ltb, le-ltb}
+use borrow.Author.Tests.{ltb-true, ltb-false, lt-ltb}
 use Rattle.config.specs.Pages.{count, count_le}
 use Rattle.memory.specs.Laws.{split}
 use Rattle.meta.specs.declared.superblock.Superblock.{Superblock}
@@ -14,23 +14,24 @@ use Rattle.meta.specs.declared.ZeroExtent.{ZeroExtent}
 use Rattle.meta.specs.Runs.{run, normalized}
 use Rattle.runs.specs.Sets.{within, covers}
 use Rattle.runs.specs.Members.{From}
-use Rattle.runs.specs.SetLaws.{within_has, has_within, normalized_from, covers_append}
+use Rattle.runs.specs.SetLaws.{within_has, has_within, normalized_from}
 use Rattle.extents.specs.Plan.{kept, below, additions, plan}
 use Rattle.extents.specs.PlanLaws.{among, additions_rise, additions_fall, additions_same, plan_normalized, plan_most, plan_covers}
-use Rattle.update.specs.ListLaws.{clash, tests}
-use Rattle.update.specs.Pages.{Page, page_numbers, holds, page_byte}
-use Rattle.update.specs.PageLaws.{Sized, Distinct, EndsBy, ends_covers, among_below, numbers_has, byte_clean, byte_dirty}
+use Rattle.update.specs.ListLaws.{clash}
+use Rattle.update.specs.Pages.{page_numbers, holds, page_byte}
+use Rattle.update.specs.PageLaws.{EndsBy, ends_covers, among_below, numbers_has, byte_clean, byte_dirty}
 use Rattle.update.specs.Image.{image_byte}
 use Rattle.update.specs.Update.{Over, raw}
-use Rattle.update.specs.Changes.{Like, in_count, count_mono}
+use Rattle.update.specs.Changes.{Like, in_count}
 use Rattle.update.specs.Refused.{Weak}
 use Rattle.update.specs.Reading.{raw_weak}
 use Rattle.store.specs.Codec.{Codec, sealed, stored}
-use Rattle.store.specs.Blocks.{importing, after_commit, Commits, after_commit_lem, seal_importing}
+use Rattle.store.specs.Blocks.{importing, after_commit}
+use Rattle.store.proofs.BlockLaws.{Commits, after_commit_lem, seal_importing}
 use Rattle.store.specs.Plan.{required}
 use Rattle.store.specs.Store.{runs_of, image, write_pages}
 use Rattle.store.specs.Lawful.{Fits, Lawful, Good}
-use Rattle.store.specs.MemoryLaws.{Reaches, pages-length, pages_low, pages_at, stored_high, stored-length}
+use Rattle.store.proofs.MemoryLaws.{Reaches, pages-length, pages_at, stored_high, stored-length}
 
 -- ## Ends of runs
 

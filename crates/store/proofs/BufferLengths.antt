@@ -1,9 +1,9 @@
 -- Every lent slice of an update keeps its length, for any state, any bytes and any call; what a truncation leaves in frames that it took and gave up; and
 -- that slices and memory which are long enough for the state before a call are so for the state after it.
-use Rattle.std.specs.Prelude.{◌≡◌, not, ◌&&◌, ◌||◌, List, [], ◌∷◌, ◌++◌, leb, take, drop, get_or}
+use Rattle.std.specs.Prelude.{◌≡◌, not, ◌&&◌, ◌||◌, List, take, drop, get_or}
 use Rattle.std.proofs.Math.Path.{refl, sym, ap, subst}
 use Rattle.std.proofs.Common.{◌∙◌, le-div_iff_mul-le, mul-le-mul_right}
-use Prim.Native.Nat.{ℕ, zero, suc, ◌+◌, ◌-◌, ◌*◌, ◌/◌, ◌≤◌, ◌<◌, max, min}
+use Prim.Native.Nat.{ℕ, ◌+◌, ◌*◌, ◌/◌, ◌≤◌, ◌<◌, max, min}
 use Rattle.std.proofs.Math.Nat.{le_trans}
 use native.Mathlib.Omega.{arith}
 use Rattle.std.proofs.Math.Bool.{Bool, true, false, cond}
@@ -11,32 +11,30 @@ use Rattle.std.proofs.Math.Dec.{ltb, eqb}
 use Rattle.std.proofs.Math.ListN.{length, length-take}
 use borrow.Author.Tests.{ltb-false, le-ltb}
 use Rattle.config.specs.Pages.{count}
-use Rattle.memory.specs.Bytes.{zeros, resize}
+use Rattle.memory.specs.Bytes.{resize}
 use Rattle.memory.specs.Laws.{length-zeros, length-resize}
 use Rattle.memory.specs.Growth.{grow_to}
 use Rattle.memory.specs.declared.Growth.{Growth}
 use Rattle.memory.specs.declared.Growth.TheVariants.{Grown, Refused as NotGrown}
 use Rattle.meta.specs.declared.superblock.Superblock.{Superblock}
 use Rattle.meta.specs.declared.ZeroExtent.{ZeroExtent}
-use Rattle.runs.specs.Flat.{runs_in}
 use Rattle.runs.specs.FlatLaws.{length-runs_in}
 use Rattle.extents.specs.Plan.{Answer as Planned, too_many, kept, below}
 use Rattle.update.specs.declared.Overlay.{Overlay}
-use Rattle.update.specs.ListLaws.{clash}
 use Rattle.update.specs.Pages.{page_numbers, pages_in}
 use Rattle.update.specs.PageLaws.{pages_in-sized, numbers-pages_in, numbers-length}
-use Rattle.update.specs.Update.{Over, fresh, read_over, Tried, accepted, refused, left, try_write, try_truncate, truncate_reach}
+use Rattle.update.specs.Update.{Over, fresh, Tried, accepted, refused, left, try_write, try_truncate, truncate_reach}
 use Rattle.update.specs.Buffers.{Buffers, frame_count, entry_count, wiped, cached, short_buffers, view, overlay_of, put_back}
-use Rattle.update.specs.BufferLaws.{Roomy, GivenBack, given_back}
+use Rattle.update.specs.BufferLaws.{GivenBack, given_back}
 use Rattle.update.specs.Rooms.{Room, write_room, truncate_room, try_grow_lem, read_room}
 use Rattle.store.specs.declared.State.{State}
 use Rattle.store.specs.declared.Answer.{Answer}
 use Rattle.store.specs.Codec.{Codec}
 use Rattle.store.specs.Blocks.{importing, refreshing}
 use Rattle.store.specs.Calls.{Call, begin, read, write, truncate, commit, rollback, file_size, import_begin, import_chunk, import_finish, import_cancel, export, checksum, refresh, refresh_step, Lent, Out, uses, Mode, idle, update, mode_of, buffers_short, short}
-use Rattle.store.specs.MemoryLaws.{grow_cases}
+use Rattle.store.proofs.MemoryLaws.{grow_cases}
 use Rattle.store.specs.Plan.{required}
-use Rattle.store.specs.Store.{budget_of, image, over, publish, settle, unchanged, planned_runs, commit_over, direct, change, do_begin, do_read, do_commit, do_rollback, restore, do_import_begin, place_chunk, do_import_chunk, do_import_finish, do_import_cancel, do_export, do_checksum, do_refresh, refresh_from, do_refresh_step, alone, act, swept, store}
+use Rattle.store.specs.Store.{budget_of, image, publish, settle, unchanged, planned_runs, commit_over, direct, change, do_begin, do_read, do_commit, do_rollback, restore, do_import_begin, place_chunk, do_import_chunk, do_import_finish, do_import_cancel, do_export, do_checksum, do_refresh, refresh_from, do_refresh_step, alone, act, swept, store}
 use Rattle.store.specs.Cases.{by_test, no_or}
 
 pub record SameLengths (l x : Buffers) : Type 0 where

@@ -8,7 +8,6 @@ use Rattle.std.proofs.Math.ListN.{get_or}
 use Rattle.config.specs.declared.StablePages.{StablePages}
 use Rattle.config.specs.declared.refusal.Refusal.{Refusal}
 use Rattle.config.specs.declared.refusal.Refusal.TheVariants.{ImportNotStarted, BufferTooShort}
-use Rattle.config.specs.Pages.{count}
 use Rattle.memory.specs.Laws.{split, overwrite_hi}
 use Rattle.meta.specs.declared.superblock.Superblock.{Superblock}
 use Rattle.meta.specs.declared.ZeroExtent.{ZeroExtent}
@@ -18,14 +17,15 @@ use Rattle.update.specs.Buffers.{Buffers}
 use Rattle.store.specs.declared.State.{State}
 use Rattle.store.specs.declared.Answer.TheVariants.{Done, Refused}
 use Rattle.store.specs.Codec.{Codec, sealed, stored}
-use Rattle.store.specs.Blocks.{importing, after_import_cancel, after_cancel, seal_importing}
+use Rattle.store.specs.Blocks.{importing, after_import_cancel}
+use Rattle.store.proofs.BlockLaws.{after_cancel, seal_importing}
 use Rattle.store.specs.Calls.{import_cancel, Lent, out, number, mode_if, short}
 use Rattle.store.specs.Store.{refuse, runs_of, restore, do_import_cancel, alone, act, store}
 use Rattle.store.specs.Opening.{Opened, memory_alone, opened_by, not_opened, open_image, closing, closing_marked, closing_unmarked, open'}
 use Rattle.store.specs.Lawful.{Lawful, Good}
-use Rattle.store.specs.MemoryLaws.{stored_long}
-use Rattle.store.specs.OpeningLaws.{Opens, image_cases, image_count_lem, image_opens}
-use Rattle.store.specs.RestoreLaws.{cancel_carries, restore_good}
+use Rattle.store.proofs.MemoryLaws.{stored_long}
+use Rattle.store.proofs.OpeningLaws.{Opens, image_cases, image_count_lem, image_opens}
+use Rattle.store.proofs.RestoreLaws.{cancel_carries, restore_good}
 
 -- no update is open, and memory holds the count
 pub record Accepts (S : ℕ) (x : Opened) : Type 0 where

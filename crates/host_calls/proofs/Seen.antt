@@ -10,7 +10,7 @@ use Rattle.update.specs.ListLaws.{clash}
 use Rattle.store.specs.declared.State.{State}
 use Rattle.store.specs.declared.Answer.{Answer}
 use Rattle.store.specs.Cases.{by_test}
-use Rattle.store.specs.OnlyShort.{only_short}
+use Rattle.store.proofs.OnlyShort.{only_short}
 use Rattle.store.specs.Codec.{real_codec}
 use Rattle.store.specs.Calls.{Call, begin, read, write, truncate, commit, rollback, file_size, import_begin, import_chunk, import_finish, import_cancel, export, checksum, refresh, refresh_step, Lent, Out, number, uses, lent_bytes, Mode, idle, update, mode_of}
 use Rattle.store.specs.Store.{do_export, do_checksum, alone, act, swept, refuse, store}

@@ -1,23 +1,23 @@
 -- Memory by its bytes: growth, pages written in place, the superblock.
-use Rattle.std.specs.Prelude.{◌≡◌, refl, ℕ, zero, suc, ◌+◌, ◌-◌, ◌*◌, ◌/◌, ◌%◌, ◌≤◌, ◌<◌, max, min, Bool, true, false, not, cond, List, [], ◌∷◌, ◌++◌, ltb, leb, eqb, length, get_or}
-use Rattle.std.proofs.Common.{sym, ap, ◌∙◌, subst, div-add-mod', le-div_iff_mul-le, mul-le-mul_right, le_trans, arith, ltb-true, ltb-false, leb-true, leb-false, eqb-true, lt-ltb, le-ltb, eq-eqb, ne_eqb}
+use Rattle.std.specs.Prelude.{◌≡◌, refl, ℕ, ◌+◌, ◌-◌, ◌*◌, ◌/◌, ◌%◌, ◌≤◌, ◌<◌, false, List, [], ◌∷◌, ltb, leb, eqb, length, get_or}
+use Rattle.std.proofs.Common.{sym, ap, ◌∙◌, subst, div-add-mod', le-div_iff_mul-le, mul-le-mul_right, le_trans, arith, ltb-true, ltb-false, leb-true, leb-false, eqb-true, lt-ltb}
 use Rattle.std.proofs.lemmas.Bool.{eqb-false}
 use Rattle.config.specs.Pages.{count, page_lo, page_hi, page_at, count_ge}
 use Rattle.config.specs.declared.refusal.Refusal.TheVariants.{GrowFailed}
 use Rattle.memory.specs.Bytes.{zeros, overwrite}
 use Rattle.memory.specs.Laws.{split, length-overwrite, overwrite_lo, overwrite_in, overwrite_hi}
-use Rattle.memory.specs.Growth.{Outcome, outcome, grow_to, stable, grow_none, grow_more, grow_refused}
+use Rattle.memory.specs.Growth.{Outcome, grow_to, stable, grow_none, grow_more, grow_refused}
 use Rattle.memory.specs.declared.Growth.{Growth}
 use Rattle.memory.specs.declared.Growth.TheVariants.{Grown, Refused}
 use Rattle.meta.specs.declared.superblock.Superblock.{Superblock}
 use Rattle.meta.specs.declared.ZeroExtent.{ZeroExtent}
 use Rattle.extents.specs.PlanLaws.{among}
-use Rattle.update.specs.ListLaws.{clash, tests}
+use Rattle.update.specs.ListLaws.{tests}
 use Rattle.update.specs.Pages.{Page, page_numbers, holds, page_byte}
 use Rattle.update.specs.PageLaws.{Sized, Distinct, byte_clean, numbers_has}
 use Rattle.store.specs.Codec.{Codec, stored}
 use Rattle.store.specs.Store.{write_pages}
-use Rattle.store.specs.Lawful.{Fits, Lawful, Alike}
+use Rattle.store.specs.Lawful.{Fits, Lawful}
 
 -- ## Growth
 

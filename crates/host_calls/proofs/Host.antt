@@ -13,7 +13,7 @@ use Rattle.store.specs.Store.{store}
 use Rattle.store.specs.Blocks.{importing}
 use Rattle.store.specs.Opening.{Opened, open'}
 use Rattle.store.specs.RealCodec.{real_lawful}
-use Rattle.store.specs.ClosingLaws.{no_import, refused_unchanged}
+use Rattle.store.proofs.ClosingLaws.{no_import, refused_unchanged}
 use Rattle.transfer.specs.OnMemory.{lent}
 use Rattle.encoding.specs.StateBytes.{state_bytes, state_in, bytes_long}
 use Rattle.encoding.specs.Called.{Shown, showing, pick, step_shown, too_short, out_of, OpenCalled, open_called, open_shown, open_at}
@@ -23,9 +23,10 @@ use Rattle.plain_file.specs.Sizes.{short', plain_of, plain_step', Word', Lends',
 use Rattle.plain_file.specs.Restored.{opened_file_given}
 use Rattle.plain_file.specs.Demand3.{demand3}
 use Rattle.host_calls.specs.Made.{Made, ByC, AllByC}
-use Rattle.host_calls.specs.CCalls.{CCall, made_all, all_by_c, COpened, state_passed, memory_passed, count_passed, answer_passed, state_left, memory_left, answer_left, open_by_c, open_typed}
+use Rattle.host_calls.specs.CCalls.{CCall, made_all, COpened, state_passed, memory_passed, count_passed, answer_passed, state_left, memory_left, answer_left}
+use Rattle.host_calls.proofs.CCallLaws.{all_by_c, open_by_c, open_typed}
 use Rattle.host_calls.specs.HostClaim.{Untouched, live, too_little, plain_after, HostPromise}
-use Rattle.host_calls.specs.Seen.{Seen, seen, untouched_short, untouched_35, owed_seen, enough_seen}
+use Rattle.host_calls.proofs.Seen.{Seen, seen, untouched_short, untouched_35, owed_seen, enough_seen}
 
 -- a call whose answer has no room does what a question for the size does: nothing
 abbrev turn_of : Bool → Made → Turn'

@@ -1,18 +1,17 @@
 -- Laws of the calls that hold for any state and any bytes: 35 changes nothing, memory keeps its length, a refused commit and a refused direct call leave memory as
 -- it was and zeros in the buffers, an accepted commit leaves the file that its update showed, and a read is full where it is to be.
-use Rattle.std.specs.Prelude.{◌≡◌, Bool, true, false, not, ◌&&◌, ◌||◌, ltb, leb, take, drop, get_or}
+use Rattle.std.specs.Prelude.{◌≡◌, Bool, true, false, not, ◌&&◌, ltb, leb, take, drop, get_or}
 use Rattle.std.proofs.Math.Path.{refl, ap}
-use Rattle.std.proofs.Common.{sym, ◌∙◌, subst, arith, eq-eqb, le-leb, ne_eqb, eqb-true}
-use Prim.Native.Nat.{ℕ, zero, suc, ◌+◌, ◌-◌, ◌*◌, ◌/◌, ◌≤◌, ◌<◌, max, min}
+use Rattle.std.proofs.Common.{◌∙◌, arith, le-leb, ne_eqb, eqb-true}
+use Prim.Native.Nat.{ℕ, ◌+◌, ◌-◌, ◌*◌, ◌/◌, ◌≤◌, ◌<◌, max, min}
 use Rattle.std.proofs.Math.Bool.{cond, or-true}
-use mathlib.Core.List.{List, [], ◌∷◌, ◌++◌}
+use mathlib.Core.List.{List, [], ◌∷◌}
 use Rattle.std.proofs.Math.Dec.{eqb}
 use Rattle.std.proofs.Math.ListN.{length}
-use Rattle.std.proofs.lemmas.Bool.{lt-leb, eqb-false}
+use Rattle.std.proofs.lemmas.Bool.{lt-leb}
 use Rattle.config.specs.Pages.{count}
-use Rattle.config.specs.declared.refusal.Refusal.{Refusal}
-use Rattle.config.specs.declared.refusal.Refusal.TheVariants.{ZeroExtentLimitExceeded, OffsetOverflow, UpdateInProgress, BufferTooShort}
-use Rattle.memory.specs.Bytes.{zeros, overwrite}
+use Rattle.config.specs.declared.refusal.Refusal.TheVariants.{BufferTooShort}
+use Rattle.memory.specs.Bytes.{zeros}
 use Rattle.memory.specs.Laws.{split, length-overwrite}
 use Rattle.memory.specs.Growth.{grow_to, required as requiredPages, stable}
 use Rattle.memory.specs.declared.Growth.{Growth}
@@ -21,8 +20,7 @@ use Rattle.meta.specs.declared.superblock.Superblock.{Superblock}
 use Rattle.meta.specs.declared.ZeroExtent.{ZeroExtent}
 use Rattle.extents.specs.Plan.{Answer as Planned, too_many, kept, below, plan}
 use Rattle.extents.specs.PlanLaws.{among}
-use Rattle.update.specs.declared.Overlay.{Overlay}
-use Rattle.update.specs.ListLaws.{clash, tests}
+use Rattle.update.specs.ListLaws.{clash}
 use Rattle.update.specs.Pages.{page_numbers}
 use Rattle.update.specs.Update.{Over, fresh, Tried, accepted, refused, try_write, try_truncate, truncate_reach}
 use Rattle.update.specs.Buffers.{frame_count, entry_count, wiped, view}
@@ -30,15 +28,15 @@ use Rattle.update.specs.Changes.{Like}
 use Rattle.update.specs.Refused.{Weak}
 use Rattle.store.specs.declared.State.{State}
 use Rattle.store.specs.declared.Answer.{Answer}
-use Rattle.store.specs.declared.Answer.TheVariants.{Done, Read, Refused}
+use Rattle.store.specs.declared.Answer.TheVariants.{Done, Refused}
 use Rattle.store.specs.Codec.{Codec}
 use Rattle.store.specs.Blocks.{importing, refreshing}
-use Rattle.store.specs.Calls.{Call, begin, read, write, truncate, commit, rollback, file_size, import_begin, import_chunk, import_finish, import_cancel, export, checksum, refresh, refresh_step, Lent, Out, out, number, uses, lent_bytes, Mode, idle, update, mode_of, short, cleared, with_mem, with_buffers}
+use Rattle.store.specs.Calls.{Call, begin, read, write, truncate, commit, rollback, file_size, import_begin, import_chunk, import_finish, import_cancel, export, checksum, refresh, refresh_step, Lent, Out, out, number, uses, lent_bytes, Mode, idle, update, mode_of, short}
 use Rattle.store.specs.Plan.{required}
-use Rattle.store.specs.Store.{budget_of, refuse, ended, image, runs_of, over, publish, settle, unchanged, planned_runs, commit_over, direct, change, do_begin, do_read, full, do_commit, do_rollback, restore, do_import_begin, place_chunk, do_import_chunk, do_import_finish, do_import_cancel, do_export, do_checksum, do_refresh, refresh_from, do_refresh_step, write_pages, alone, act, swept, store}
+use Rattle.store.specs.Store.{budget_of, refuse, ended, image, runs_of, over, publish, settle, unchanged, planned_runs, commit_over, direct, change, do_begin, do_read, full, do_commit, do_rollback, restore, do_import_begin, place_chunk, do_import_chunk, do_import_finish, do_import_cancel, do_export, do_checksum, do_refresh, refresh_from, do_refresh_step, alone, act, swept, store}
 use Rattle.store.specs.Lawful.{Lawful, Good}
-use Rattle.store.specs.MemoryLaws.{Reaches, pages-length, stored_long}
-use Rattle.store.specs.CommitLaws.{new_block, flushed, after, commit_good, commit_image}
+use Rattle.store.proofs.MemoryLaws.{Reaches, pages-length, stored_long}
+use Rattle.store.proofs.CommitLaws.{new_block, flushed, after, commit_good, commit_image}
 use Rattle.store.specs.Cases.{by_test}
 
 grow-length : (S n end : ℕ) (m : List ℕ) → length (grow_to S n end m).mem ≡ length m

@@ -1,5 +1,5 @@
 -- 01's opening by its ways out: an image that it accepts is in order, the fresh one included, and only a fresh one is stored by it.
-use Rattle.std.specs.Prelude.{◌≡◌, ℕ, ◌+◌, ◌-◌, ◌*◌, ◌≤◌, ◌<◌, ◌||◌, List, [], eqb, length}
+use Rattle.std.specs.Prelude.{◌≡◌, ℕ, ◌+◌, ◌*◌, ◌≤◌, ◌<◌, ◌||◌, List, [], eqb, length}
 use Rattle.std.proofs.Math.Path.{refl, ap}
 use Rattle.std.proofs.Common.{sym, ◌∙◌, mul-le-mul_right, pos_of_ne-zero, one-mul, arith}
 use Rattle.std.proofs.Math.Bool.{Bool, true, false}
@@ -19,12 +19,13 @@ use Rattle.meta.specs.Runs.{normalized_nil}
 use Rattle.update.specs.ListLaws.{clash}
 use Rattle.store.specs.declared.Answer.TheVariants.{Done}
 use Rattle.store.specs.Codec.{Codec, sealed, stored}
-use Rattle.store.specs.Blocks.{importing, seal_importing}
+use Rattle.store.specs.Blocks.{importing}
+use Rattle.store.proofs.BlockLaws.{seal_importing}
 use Rattle.store.specs.Calls.{number}
 use Rattle.store.specs.Store.{resting, no_overlay}
 use Rattle.store.specs.Opening.{Opened, outside, not_opened, open_fresh, open_loaded, open_image}
 use Rattle.store.specs.Lawful.{Fits, LoadedAs, Lawful, Good}
-use Rattle.store.specs.MemoryLaws.{Reaches, grow_cases, stored-length}
+use Rattle.store.proofs.MemoryLaws.{Reaches, grow_cases, stored-length}
 use Rattle.store.specs.Cases.{by_test, no_or}
 
 -- a refusal has a number

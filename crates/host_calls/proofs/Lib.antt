@@ -1,0 +1,4 @@
+pub mod Seen
+pub mod Host
+pub mod LastCall
+pub mod CCallLaws

@@ -1,0 +1,10 @@
+pub mod BufferLengths
+pub mod ClosingLaws
+pub mod CommitLaws
+pub mod MemoryLaws
+pub mod OnlyShort
+pub mod OpeningLaws
+pub mod RestoreLaws
+pub mod StoreLaws
+pub mod BlockLaws
+pub mod PlanLaws
