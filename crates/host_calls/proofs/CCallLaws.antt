@@ -43,6 +43,7 @@ use Rattle.yuharopu.proofs.yuharopu_refresh_checksum_chunk.Reads.{Learnt as refr
 use Rattle.yuharopu.proofs.yuharopu_open.Kinds.{ps as ps-open, r as r-open}
 use Rattle.yuharopu.proofs.yuharopu_open.Reads.{Learnt as open-promises}
 use Rattle.host_calls.specs.CCalls.{CCall, COpened, answer_left, answer_passed, count_passed, made_all, made_of, memory_left, memory_passed, state_left, state_passed, yuharopu_begin_import, yuharopu_begin_update, yuharopu_cancel_import, yuharopu_checksum, yuharopu_commit_update, yuharopu_export_chunk, yuharopu_file_size, yuharopu_finish_import, yuharopu_import_chunk, yuharopu_read_at, yuharopu_refresh_checksum, yuharopu_refresh_checksum_chunk, yuharopu_rollback_update, yuharopu_truncate, yuharopu_write_at}
+
 pub by_c : (c : CCall) → ByC (made_of c)
 by_c (yuharopu_begin_update x l) = x.promised l
 by_c (yuharopu_read_at x w) = x.promised w
