@@ -1,47 +1,9 @@
 -- THE TIE: the contract of each of the fifteen functions is the one equation
-use Rattle.std.specs.Prelude.{◌≡◌, ℕ, ◌≤◌, List, [], ◌∷◌, length}
+use Rattle.std.specs.Prelude.{◌≡◌, ◌≤◌, List, [], ◌∷◌, length}
 use Rattle.std.proofs.Common.{arith}
-use Rattle.update.specs.Laid.{bufs}
-use Rattle.update.specs.Buffers.{Buffers}
-use Rattle.store.specs.Calls.{Call, begin, read, write, truncate, commit, rollback, file_size, import_begin, import_chunk, import_finish, import_cancel, export, checksum, refresh, refresh_step, Lent}
-use Rattle.transfer.specs.OnMemory.{lent}
 use Rattle.encoding.specs.Called.{open_called, open_at}
-use Rattle.yuharopu.specs.StoreCalls.{is_set}
 use Rattle.plain_file.specs.Sizes.{Word'}
-use Rattle.plain_file.specs.BlobCalls.{CallOf}
-use Rattle.host_calls.specs.Made.{Made, ByC, AllByC}
-use Rattle.yuharopu.proofs.yuharopu_begin_update.Kinds.{ps as ps-begin-update, r as r-begin-update}
-use Rattle.yuharopu.proofs.yuharopu_begin_update.Reads.{Learnt as begin-update-promises}
-use Rattle.yuharopu.proofs.yuharopu_read_at.Kinds.{ps as ps-read-at, r as r-read-at}
-use Rattle.yuharopu.proofs.yuharopu_read_at.Reads.{Learnt as read-at-promises}
-use Rattle.yuharopu.proofs.yuharopu_write_at.Kinds.{ps as ps-write-at, r as r-write-at}
-use Rattle.yuharopu.proofs.yuharopu_write_at.Reads.{Learnt as write-at-promises}
-use Rattle.yuharopu.proofs.yuharopu_truncate.Kinds.{ps as ps-truncate, r as r-truncate}
-use Rattle.yuharopu.proofs.yuharopu_truncate.Reads.{Learnt as truncate-promises}
-use Rattle.yuharopu.proofs.yuharopu_commit_update.Kinds.{ps as ps-commit-update, r as r-commit-update}
-use Rattle.yuharopu.proofs.yuharopu_commit_update.Reads.{Learnt as commit-update-promises}
-use Rattle.yuharopu.proofs.yuharopu_rollback_update.Kinds.{ps as ps-rollback-update, r as r-rollback-update}
-use Rattle.yuharopu.proofs.yuharopu_rollback_update.Reads.{Learnt as rollback-update-promises}
-use Rattle.yuharopu.proofs.yuharopu_file_size.Kinds.{ps as ps-file-size, r as r-file-size}
-use Rattle.yuharopu.proofs.yuharopu_file_size.Reads.{Learnt as file-size-promises}
-use Rattle.yuharopu.proofs.yuharopu_begin_import.Kinds.{ps as ps-begin-import, r as r-begin-import}
-use Rattle.yuharopu.proofs.yuharopu_begin_import.Reads.{Learnt as begin-import-promises}
-use Rattle.yuharopu.proofs.yuharopu_import_chunk.Kinds.{ps as ps-import-chunk, r as r-import-chunk}
-use Rattle.yuharopu.proofs.yuharopu_import_chunk.Reads.{Learnt as import-chunk-promises}
-use Rattle.yuharopu.proofs.yuharopu_finish_import.Kinds.{ps as ps-finish-import, r as r-finish-import}
-use Rattle.yuharopu.proofs.yuharopu_finish_import.Reads.{Learnt as finish-import-promises}
-use Rattle.yuharopu.proofs.yuharopu_cancel_import.Kinds.{ps as ps-cancel-import, r as r-cancel-import}
-use Rattle.yuharopu.proofs.yuharopu_cancel_import.Reads.{Learnt as cancel-import-promises}
-use Rattle.yuharopu.proofs.yuharopu_export_chunk.Kinds.{ps as ps-export-chunk, r as r-export-chunk}
-use Rattle.yuharopu.proofs.yuharopu_export_chunk.Reads.{Learnt as export-chunk-promises}
-use Rattle.yuharopu.proofs.yuharopu_checksum.Kinds.{ps as ps-checksum, r as r-checksum}
-use Rattle.yuharopu.proofs.yuharopu_checksum.Reads.{Learnt as checksum-promises}
-use Rattle.yuharopu.proofs.yuharopu_refresh_checksum.Kinds.{ps as ps-refresh-checksum, r as r-refresh-checksum}
-use Rattle.yuharopu.proofs.yuharopu_refresh_checksum.Reads.{Learnt as refresh-checksum-promises}
-use Rattle.yuharopu.proofs.yuharopu_refresh_checksum_chunk.Kinds.{ps as ps-refresh-checksum-chunk, r as r-refresh-checksum-chunk}
-use Rattle.yuharopu.proofs.yuharopu_refresh_checksum_chunk.Reads.{Learnt as refresh-checksum-chunk-promises}
-use Rattle.yuharopu.proofs.yuharopu_open.Kinds.{ps as ps-open, r as r-open}
-use Rattle.yuharopu.proofs.yuharopu_open.Reads.{Learnt as open-promises}
+use Rattle.host_calls.specs.Made.{ByC, AllByC}
 use Rattle.host_calls.specs.CCalls.{CCall, COpened, answer_left, answer_passed, count_passed, made_all, made_of, memory_left, memory_passed, state_left, state_passed, yuharopu_begin_import, yuharopu_begin_update, yuharopu_cancel_import, yuharopu_checksum, yuharopu_commit_update, yuharopu_export_chunk, yuharopu_file_size, yuharopu_finish_import, yuharopu_import_chunk, yuharopu_read_at, yuharopu_refresh_checksum, yuharopu_refresh_checksum_chunk, yuharopu_rollback_update, yuharopu_truncate, yuharopu_write_at}
 
 pub by_c : (c : CCall) → ByC (made_of c)

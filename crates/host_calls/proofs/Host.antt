@@ -1,5 +1,5 @@
 -- DEMAND 3 FOR A HOST: whoever opens an image with the C function and makes any list of C calls has the plain file.
-use Rattle.std.specs.Prelude.{◌≡◌, ℕ, ◌+◌, ◌*◌, ◌≤◌, Bool, true, false, not, cond, ◌||◌, ltb, eqb, length, take}
+use Rattle.std.specs.Prelude.{◌≡◌, ℕ, ◌*◌, ◌≤◌, Bool, true, false, ◌||◌, ltb, eqb, length, take}
 use Rattle.std.proofs.Math.Path.{refl, subst}
 use Rattle.std.proofs.Common.{sym, ap, ◌∙◌, arith, eq-eqb, ne_eqb}
 use mathlib.Core.List.{List, [], ◌∷◌}
@@ -8,7 +8,7 @@ use Rattle.words.specs.Words.{Bytes}
 use Rattle.update.specs.Buffers.{Buffers}
 use Rattle.store.specs.declared.State.{State}
 use Rattle.store.specs.Codec.{real_codec}
-use Rattle.store.specs.Calls.{Call, file_size, Lent, Out, number, short, with_mem}
+use Rattle.store.specs.Calls.{Call, file_size, Lent, Out, number, short}
 use Rattle.store.specs.Store.{store}
 use Rattle.store.specs.Blocks.{importing}
 use Rattle.store.specs.Opening.{Opened, open'}
@@ -22,10 +22,10 @@ use Rattle.plain_file.specs.Claim.{Claim}
 use Rattle.plain_file.specs.Sizes.{short', plain_of, plain_step', Word', Lends', leaves', at_begin', Owed', Nothing', Turn', Promise'}
 use Rattle.plain_file.specs.Restored.{opened_file_given}
 use Rattle.plain_file.specs.Demand3.{demand3}
-use Rattle.host_calls.specs.Made.{Made, ByC, AllByC}
+use Rattle.host_calls.specs.Made.{Made, AllByC}
 use Rattle.host_calls.specs.CCalls.{CCall, made_all, COpened, state_passed, memory_passed, count_passed, answer_passed, state_left, memory_left, answer_left}
 use Rattle.host_calls.proofs.CCallLaws.{all_by_c, open_by_c, open_typed}
-use Rattle.host_calls.specs.HostClaim.{Untouched, live, too_little, plain_after, HostPromise}
+use Rattle.host_calls.specs.HostClaim.{Untouched, too_little, plain_after, HostPromise}
 use Rattle.host_calls.proofs.Seen.{Seen, seen, untouched_short, untouched_35, owed_seen, enough_seen}
 
 -- a call whose answer has no room does what a question for the size does: nothing

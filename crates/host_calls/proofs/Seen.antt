@@ -1,7 +1,7 @@
 -- What is seen of a C call is what the store's definition makes of the state that the bytes hold.
-use Rattle.std.specs.Prelude.{◌≡◌, ℕ, ◌+◌, ◌*◌, ◌≤◌, Bool, true, false, not, ◌||◌, List, [], ltb, eqb, length, take}
+use Rattle.std.specs.Prelude.{◌≡◌, ℕ, ◌*◌, ◌≤◌, Bool, true, false, List, eqb, length, take}
 use Rattle.std.proofs.Math.Path.{refl, ap}
-use Rattle.std.proofs.Common.{sym, ◌∙◌, subst, arith, eq-eqb, ne_eqb}
+use Rattle.std.proofs.Common.{sym, ◌∙◌, subst, ne_eqb}
 use Rattle.std.proofs.Math.Bool.{cond}
 use Rattle.config.specs.declared.refusal.Refusal.TheVariants.{BufferTooShort}
 use Rattle.memory.specs.Bytes.{overwrite}
@@ -12,7 +12,7 @@ use Rattle.store.specs.declared.Answer.{Answer}
 use Rattle.store.specs.Cases.{by_test}
 use Rattle.store.proofs.OnlyShort.{only_short}
 use Rattle.store.specs.Codec.{real_codec}
-use Rattle.store.specs.Calls.{Call, begin, read, write, truncate, commit, rollback, file_size, import_begin, import_chunk, import_finish, import_cancel, export, checksum, refresh, refresh_step, Lent, Out, number, uses, lent_bytes, Mode, idle, update, mode_of}
+use Rattle.store.specs.Calls.{Call, begin, read, write, truncate, commit, rollback, file_size, import_begin, import_chunk, import_finish, import_cancel, export, checksum, refresh, refresh_step, Lent, Out, number, uses, Mode, idle, update, mode_of}
 use Rattle.store.specs.Store.{do_export, do_checksum, alone, act, swept, refuse, store}
 use Rattle.encoding.specs.StateBytes.{state_bytes, state_in, bytes_long}
 use Rattle.encoding.specs.Called.{four, values, Shown, showing, pick, step_shown, answer_shown, Called, called_as, too_short, shown, told, refused_short, out_of, call, ask, call_short, ask_short}

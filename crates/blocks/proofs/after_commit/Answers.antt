@@ -1,7 +1,5 @@
-use borrow.Author.Tests.{not-true, not-false}
 use mathlib.Core.Path.{refl}
 use Rattle.store.specs.Blocks.{after_commit}
-use borrow.Author.Rules.{rules}
 use Rattle.blocks.proofs.after_commit.Goals as goal
 
 pub returns-then-not-update : goal.returns-then-not-update

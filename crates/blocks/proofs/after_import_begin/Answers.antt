@@ -1,6 +1,5 @@
 use mathlib.Core.Path.{refl}
 use Rattle.store.specs.Blocks.{after_import_begin}
-use borrow.Author.Rules.{rules}
 use Rattle.blocks.proofs.after_import_begin.Goals as goal
 
 pub returns : goal.returns

@@ -1,6 +1,5 @@
 use mathlib.Core.Path.{refl}
 use Rattle.store.specs.Blocks.{after_refresh_step}
-use borrow.Author.Rules.{rules}
 use Rattle.blocks.proofs.after_refresh_step.Goals as goal
 
 pub returns : goal.returns

@@ -1,5 +1,4 @@
 use mathlib.Core.Path.{refl}
-use borrow.Author.Rules.{rules}
 use Rattle.blocks.proofs.with_image.Goals as goal
 
 pub returns : goal.returns

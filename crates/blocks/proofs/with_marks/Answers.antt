@@ -1,6 +1,5 @@
 use native.Mathlib.Omega.{arith}
 use Rattle.store.specs.Blocks.{marks}
-use borrow.Author.Rules.{rules}
 use Rattle.blocks.proofs.with_marks.Goals as goal
 
 pub returns : goal.returns

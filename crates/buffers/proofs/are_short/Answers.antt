@@ -4,7 +4,6 @@ use native.Mathlib.Omega.{arith}
 use lib.ListN.{length}
 use borrow.Author.Tests.{lt-ltb, le-ltb}
 use Rattle.update.specs.Buffers.{frame_count, short_buffers}
-use borrow.Author.Rules.{rules}
 use Rattle.buffers.proofs.are_short.Goals as goal
 
 pub returns-then-frame_count-o : goal.returns-then-frame_count-o

@@ -10,7 +10,6 @@ use Rattle.memory.specs.Laws.{split}
 use Rattle.update.specs.declared.Overlay.{Overlay}
 use Rattle.update.specs.Pages.{place_of}
 use Rattle.update.specs.Buffers.{dirty_page}
-use borrow.Author.Rules.{rules}
 use Rattle.buffers.proofs.dirty_page.Goals as goal
 
 module _ (P C : ℕ) (v : Overlay) (f n : List ℕ) (q : ℕ) where

@@ -3,7 +3,6 @@ use mathlib.Core.Path.{ap}
 use Rattle.update.specs.declared.CleanCache.{CleanCache}
 use Rattle.update.specs.Laid.{settle}
 use Rattle.update.specs.TouchLaws.{moved}
-use borrow.Author.Rules.{rules}
 use Rattle.buffers.proofs.settle.Goals as goal
 
 pub returns : goal.returns

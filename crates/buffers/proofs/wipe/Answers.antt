@@ -1,7 +1,6 @@
 -- `overlay::wipe` meets its contract.
 use Rattle.update.specs.Buffers.{wiped}
 use Rattle.update.specs.Laid.{bufs}
-use borrow.Author.Rules.{rules}
 use Rattle.buffers.proofs.wipe.Goals as goal
 
 pub returns : goal.returns

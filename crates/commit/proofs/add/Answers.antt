@@ -1,7 +1,6 @@
 use mathlib.Core.Path.{sym}
 use native.Mathlib.Omega.{arith}
 use Rattle.commit.specs.Reach.{reach_at, reach_over}
-use borrow.Author.Rules.{rules}
 use Rattle.commit.proofs.add.Goals as goal
 
 pub returns-then-a-b : goal.returns-then-a-b

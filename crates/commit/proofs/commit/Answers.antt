@@ -1,7 +1,6 @@
 -- `commit` meets its contract.
 use mathlib.Core.Path.{sym, ◌∙◌}
 use Rattle.commit.specs.CommitSteps.{commit_empty, commit_on}
-use borrow.Author.Rules.{rules}
 use Rattle.commit.proofs.commit.Goals as goal
 
 pub returns-then-is_empty : goal.returns-then-is_empty

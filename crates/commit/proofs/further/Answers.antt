@@ -1,7 +1,6 @@
 use mathlib.Core.Path.{sym, ap, ◌∙◌}
 use native.Mathlib.Omega.{arith}
 use Rattle.commit.specs.Reach.{reach, reach_at, reach_over, at_reach, over_reach, required_none, required_one}
-use borrow.Author.Rules.{rules}
 use Rattle.commit.proofs.further.Goals as goal
 
 pub returns-then-count-page : goal.returns-then-count-page

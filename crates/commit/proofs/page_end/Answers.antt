@@ -1,7 +1,6 @@
 use mathlib.Core.Path.{sym}
 use native.Mathlib.Omega.{arith}
 use Rattle.commit.specs.Reach.{reach_over}
-use borrow.Author.Rules.{rules}
 use Rattle.commit.proofs.page_end.Goals as goal
 
 pub returns-then-page : goal.returns-then-page

@@ -3,7 +3,6 @@ use mathlib.Core.Path.{◌∙◌}
 use lib.ListN.{take}
 use Rattle.update.specs.Pages.{pages_in}
 use Rattle.commit.specs.CommitSteps.{publish_refused, publish_grown}
-use borrow.Author.Rules.{rules}
 use Rattle.commit.proofs.publish.Goals as goal
 
 pub returns-in-Refused : goal.returns-in-Refused

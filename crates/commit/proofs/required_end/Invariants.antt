@@ -1,14 +1,9 @@
-use mathlib.Core.Path.{◌≡◌, sym, ap, subst, ◌∙◌}
-use Prim.Native.Nat.{ℕ, ◌+◌, ◌-◌, ◌≤◌}
-use native.Mathlib.Omega.{arith}
-use mathlib.Core.List.{[], ◌∷◌}
-use lib.ListN.{take, drop, get_or}
-use borrow.Author.Rules.{rules}
+use mathlib.Core.Path.{◌≡◌}
+use Prim.Native.Nat.{◌+◌, ◌-◌, ◌≤◌}
+use lib.ListN.{take, drop}
 use Rattle.config.specs.Pages.{count}
 use Rattle.extents.specs.Plan.{below}
 use Rattle.store.specs.Plan.{required}
-use Rattle.commit.specs.declared.Reach.{Reach}
-use Rattle.commit.specs.Reach.{reach, reach_at, reach_over, at_reach, over_reach, required_least, required_end, turn_over, turn_at}
 use Rattle.commit.proofs.required_end.Given as goal
 
 abbrev pub invariant-loop-i : goal.invariant-loop-i

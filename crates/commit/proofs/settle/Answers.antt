@@ -5,7 +5,6 @@ use native.Mathlib.Omega.{arith}
 use lib.ListN.{take, length-take}
 use Rattle.store.specs.Codec.{real_codec}
 use Rattle.commit.specs.CommitSteps.{plan_refused, plan_room, plan_kept, front_even, reach_over, reach_at, settle_refused, settle_over, settle_on}
-use borrow.Author.Rules.{rules}
 use Rattle.commit.proofs.settle.Goals as goal
 
 pub returns-in_default : goal.returns-in_default

@@ -1,11 +1,8 @@
-use mathlib.Core.Path.{◌≡◌, refl, sym, ap, ◌∙◌}
-use mathlib.Core.Logic.{⊎_elim}
-use Prim.Native.Nat.{◌+◌, ◌-◌, ◌*◌, ◌≤◌}
-use native.Mathlib.Omega.{arith}
+use mathlib.Core.Path.{◌≡◌}
+use Prim.Native.Nat.{◌-◌, ◌≤◌}
 use lib.ListN.{length}
-use borrow.Author.Rules.{rules}
 use Rattle.store.specs.Codec.{real_codec}
-use Rattle.commit.specs.CommitSteps.{rest, rest_skip, rest_page, rest_none, rest_all}
+use Rattle.commit.specs.CommitSteps.{rest}
 use Rattle.commit.proofs.write_pages.Given as goal
 
 abbrev pub invariant-loop-i : goal.invariant-loop-i

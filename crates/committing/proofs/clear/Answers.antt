@@ -1,7 +1,6 @@
 -- `committing::clear` meets its contract.
 use mathlib.Core.List.{[]}
 use Rattle.transfer.specs.OnMemory.{lent}
-use borrow.Author.Rules.{rules}
 use Rattle.committing.proofs.clear.Goals as goal
 
 pub returns : goal.returns

@@ -7,7 +7,6 @@ use Rattle.store.specs.Calls.{Lent}
 use Rattle.transfer.specs.OnMemory.{lent}
 use Rattle.transfer.specs.StoreCases.{refused_as, not_true, not_false}
 use Rattle.committing.specs.CommitCases.{commit_short, commit_idle, commit_open, commit_fits}
-use borrow.Author.Rules.{rules}
 use Rattle.committing.proofs.commit_update.Goals as goal
 
 pub returns-then-any_is_short : goal.returns-then-any_is_short

@@ -9,7 +9,6 @@ use Rattle.store.specs.Calls.{Lent}
 use Rattle.commit.specs.Committed.{outcome}
 use Rattle.transfer.specs.OnMemory.{lent}
 use Rattle.committing.specs.CommitCases.{concluded}
-use borrow.Author.Rules.{rules}
 use Rattle.committing.proofs.conclude.Goals as goal
 
 pub shape_of-mem : goal.shape_of-mem

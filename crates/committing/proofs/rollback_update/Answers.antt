@@ -6,7 +6,6 @@ use Rattle.update.specs.Buffers.{Buffers}
 use Rattle.update.specs.Laid.{bufs}
 use Rattle.transfer.specs.StoreCases.{refused_as, not_true, not_false}
 use Rattle.committing.specs.CommitCases.{back_short, back_idle, back_open}
-use borrow.Author.Rules.{rules}
 use Rattle.committing.proofs.rollback_update.Goals as goal
 
 pub returns-then-are_short : goal.returns-then-are_short

@@ -3,7 +3,6 @@ use mathlib.Core.Path.{sym}
 use Prim.Native.Nat.{◌/◌}
 use native.Mathlib.Nat.{div-add-mod', le-mul_of_pos_right, pos_of_ne-zero}
 use native.Mathlib.Omega.{arith}
-use borrow.Author.Rules.{rules}
 use Rattle.config.specs.Pages.{count_whole, count_part}
 use Rattle.config.proofs.div_ceil.Goals as goal
 

@@ -1,13 +1,7 @@
-use Prim.Native.Nat.{◌+◌, ◌-◌, ◌≤◌}
-use mathlib.Core.Path.{◌≡◌, refl, ◌∙◌}
-use mathlib.Core.Bool.{true}
+use mathlib.Core.Path.{refl, ◌∙◌}
 use native.Mathlib.Omega.{arith}
-use lib.ListN.{length}
-use Rattle.meta.specs.Runs.{normalized}
-use Rattle.runs.specs.Flat.{runs_in, upto}
 use Rattle.runs.specs.FlatLaws.{upto_most}
-use Rattle.extents.specs.Plan.{add_each}
-use Rattle.extents.specs.Steps.{norm, told}
+use Rattle.extents.specs.Steps.{told}
 use Rattle.extents.specs.PlanLaws.{told_norm, record_step, record_last}
 use borrow.Author.Rules.{rules}
 use Rattle.extents.proofs.add_record.Goals as goal

@@ -1,5 +1,4 @@
 use Rattle.extents.specs.PlanLaws.{resized_rise, resized_fall, resized_same, within_same}
-use borrow.Author.Rules.{rules}
 use Rattle.extents.proofs.add_resized.Goals as goal
 
 pub returns-then-old-new : goal.returns-then-old-new

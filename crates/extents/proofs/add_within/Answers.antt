@@ -1,6 +1,5 @@
 use native.Mathlib.Omega.{arith}
 use Rattle.extents.specs.PlanLaws.{within_step, within_stopped}
-use borrow.Author.Rules.{rules}
 use Rattle.extents.proofs.add_within.Goals as goal
 
 pub returns-then-limit-count : goal.returns-then-limit-count

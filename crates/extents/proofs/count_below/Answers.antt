@@ -1,10 +1,5 @@
-use Prim.Native.Nat.{◌+◌, ◌-◌, ◌≤◌}
-use mathlib.Core.Path.{◌≡◌}
 use native.Mathlib.Omega.{arith}
-use lib.ListN.{length, take, drop}
-use Rattle.extents.specs.Plan.{below}
 use Rattle.extents.specs.PlanLaws.{tally_step, tally_last}
-use borrow.Author.Rules.{rules}
 use Rattle.extents.proofs.count_below.Goals as goal
 
 pub loop-i-preserved : goal.loop-i-preserved

@@ -1,7 +1,6 @@
 use native.Mathlib.Omega.{arith}
 use lib.ListN.{length}
 use Rattle.extents.specs.PlanLaws.{ends_not, ends_runs}
-use borrow.Author.Rules.{rules}
 use Rattle.extents.proofs.finish.Goals as goal
 
 pub returns-then-count : goal.returns-then-count

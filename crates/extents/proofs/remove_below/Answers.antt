@@ -1,6 +1,5 @@
 use native.Mathlib.Omega.{arith}
 use Rattle.extents.specs.PlanLaws.{page_past, page_out}
-use borrow.Author.Rules.{rules}
 use Rattle.extents.proofs.remove_below.Goals as goal
 
 pub returns-then-end-page : goal.returns-then-end-page

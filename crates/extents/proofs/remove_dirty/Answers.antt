@@ -1,12 +1,6 @@
-use Prim.Native.Nat.{◌+◌, ◌-◌, ◌≤◌}
-use mathlib.Core.Path.{◌≡◌, refl, ◌∙◌}
-use mathlib.Core.Bool.{true}
+use mathlib.Core.Path.{refl, ◌∙◌}
 use native.Mathlib.Omega.{arith}
-use lib.ListN.{length, take, drop}
-use Rattle.meta.specs.Runs.{normalized}
-use Rattle.runs.specs.Sets.{maximal}
 use Rattle.runs.specs.Flat.{runs_in}
-use Rattle.extents.specs.Plan.{below, remove_each}
 use Rattle.extents.specs.PlanLaws.{pages_step, pages_last}
 use borrow.Author.Rules.{rules}
 use Rattle.extents.proofs.remove_dirty.Goals as goal

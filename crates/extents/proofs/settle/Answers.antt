@@ -5,7 +5,6 @@ use lib.ListN.{length, take}
 use Rattle.runs.specs.Flat.{runs_in}
 use Rattle.extents.specs.Plan.{below}
 use Rattle.extents.specs.PlanLaws.{tally_most, settle_not, settle_left}
-use borrow.Author.Rules.{rules}
 use Rattle.extents.proofs.settle.Goals as goal
 
 pub overflow_add-limit : goal.overflow_add-limit

@@ -1,6 +1,6 @@
 -- `fnv::are_zeros` meets its contract: whether the first `k` of the five bytes are zeros, by their sum.
-use Rattle.std.proofs.Common.{◌≡◌, ℕ, ◌+◌, ◌-◌, ◌*◌, ◌≤◌, eqb, length, take, drop, refl, arith, rules}
-use Rattle.fnv.specs.Zeros.{all_zeros, zeros_next}
+use Rattle.std.proofs.Common.{◌≡◌, refl, arith, rules}
+use Rattle.fnv.specs.Zeros.{zeros_next}
 use Rattle.fnv.proofs.are_zeros.Goals as goal
 
 pub loop-k-init : goal.loop-k-init

@@ -1,5 +1,5 @@
-use Rattle.std.proofs.Common.{◌≡◌, ℕ, ◌+◌, ◌-◌, ◌*◌, ◌≤◌, eqb, length, take, drop, refl, arith, rules}
-use Rattle.fnv.specs.Zeros.{all_zeros, zeros_next}
+use Rattle.std.proofs.Common.{◌≡◌, ◌-◌, ◌*◌, ◌≤◌, eqb, take, drop}
+use Rattle.fnv.specs.Zeros.{all_zeros}
 use Rattle.fnv.proofs.are_zeros.Given as goal
 
 abbrev pub invariant-loop-k : goal.invariant-loop-k

@@ -1,5 +1,5 @@
 -- `fnv::fnv1a64` meets its contract.
-use Rattle.std.proofs.Common.{sym, ◌∙◌, rules}
+use Rattle.std.proofs.Common.{sym, ◌∙◌}
 use Rattle.fnv.specs.Fnv.{fnv_is}
 use Rattle.fnv.proofs.fnv1a64.Goals as goal
 

@@ -1,5 +1,5 @@
 -- `fnv::fold_eight` meets its contract: three bytes and then five, or three and one multiplication for the zeros.
-use Rattle.std.proofs.Common.{◌≡◌, ℕ, ◌+◌, ◌*◌, ◌%◌, ◌^◌, ◌<◌, true, List, length, take, drop, sym, ap, ◌∙◌, arith, length-drop, length-take, rules}
+use Rattle.std.proofs.Common.{◌≡◌, ℕ, ◌+◌, ◌^◌, ◌<◌, true, List, length, take, drop, sym, ap, ◌∙◌, arith, length-drop, length-take}
 use Rattle.fnv.specs.Fnv.{fold}
 use Rattle.fnv.specs.Parts.{fold_both}
 use Rattle.fnv.specs.Zeros.{all_zeros, five_zeros}

@@ -1,5 +1,5 @@
 -- `fnv::fold_fnv1a64` meets its contract: before each turn the hash is that of the first `i` bytes.
-use Rattle.std.proofs.Common.{◌≡◌, ℕ, ◌+◌, ◌-◌, ◌≤◌, length, take, drop, sym, ap, ◌∙◌, arith, rules}
+use Rattle.std.proofs.Common.{ℕ, ◌-◌, length, take, drop, sym, ap, ◌∙◌, arith, rules}
 use Rattle.fnv.specs.Fnv.{fold, fold_nil}
 use Rattle.fnv.specs.Parts.{fold_on, fold_rest}
 use Rattle.fnv.proofs.fold_fnv1a64.Goals as goal

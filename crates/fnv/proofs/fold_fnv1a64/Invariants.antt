@@ -1,6 +1,5 @@
-use Rattle.std.proofs.Common.{◌≡◌, ℕ, ◌+◌, ◌-◌, ◌≤◌, length, take, drop, sym, ap, ◌∙◌, arith, rules}
-use Rattle.fnv.specs.Fnv.{fold, fold_nil}
-use Rattle.fnv.specs.Parts.{fold_on, fold_rest}
+use Rattle.std.proofs.Common.{◌≡◌, ◌-◌, ◌≤◌, length, take}
+use Rattle.fnv.specs.Fnv.{fold}
 use Rattle.fnv.proofs.fold_fnv1a64.Given as goal
 
 abbrev pub invariant-loop-i : goal.invariant-loop-i

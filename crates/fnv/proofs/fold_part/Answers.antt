@@ -1,5 +1,5 @@
 -- `fnv::fold_part` meets its contract: before each turn the hash is that of the first `k` bytes of the part.
-use Rattle.std.proofs.Common.{◌≡◌, ℕ, ◌+◌, ◌-◌, ◌≤◌, length, get_or, take, drop, sym, ap, ◌∙◌, arith, rules}
+use Rattle.std.proofs.Common.{◌≡◌, ℕ, ◌+◌, get_or, take, drop, sym, ap, ◌∙◌, arith, rules}
 use Rattle.fnv.specs.Fnv.{fold, fold_nil, step as taken}
 use Rattle.fnv.specs.Parts.{fold_next}
 use Rattle.fnv.proofs.fold_part.Goals as goal

@@ -1,6 +1,5 @@
-use Rattle.std.proofs.Common.{◌≡◌, ℕ, ◌+◌, ◌-◌, ◌≤◌, length, get_or, take, drop, sym, ap, ◌∙◌, arith, rules}
-use Rattle.fnv.specs.Fnv.{fold, fold_nil, step as taken}
-use Rattle.fnv.specs.Parts.{fold_next}
+use Rattle.std.proofs.Common.{◌≡◌, ◌-◌, ◌≤◌, take, drop}
+use Rattle.fnv.specs.Fnv.{fold}
 use Rattle.fnv.proofs.fold_part.Given as goal
 
 abbrev pub invariant-loop-k : goal.invariant-loop-k

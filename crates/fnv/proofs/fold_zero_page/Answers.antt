@@ -1,5 +1,5 @@
 -- `fnv::fold_zero_page` meets its contract: the constant is the power of the prime for a page.
-use Rattle.std.proofs.Common.{sym, ◌∙◌, rules}
+use Rattle.std.proofs.Common.{sym, ◌∙◌}
 use Rattle.fnv.specs.Zeros.{page_zeros}
 use Rattle.fnv.proofs.fold_zero_page.Goals as goal
 

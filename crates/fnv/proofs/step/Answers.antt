@@ -1,5 +1,5 @@
 -- `fnv::step` meets its contract: an octet is below 256.
-use Rattle.std.proofs.Common.{ℕ, ◌*◌, ◌%◌, ◌^◌, ap, ◌∙◌, arith, rules}
+use Rattle.std.proofs.Common.{ℕ, ◌*◌, ◌%◌, ◌^◌, ap, ◌∙◌, arith}
 use Rattle.fnv.specs.Fnv.{mixed_is, prime, step as taken}
 use Rattle.fnv.proofs.step.Goals as goal
 

@@ -1,5 +1,5 @@
 -- `fnv::times` meets its contract: of the products of halves, those past 2^64 fall away.
-use Rattle.std.proofs.Common.{arith, rules}
+use Rattle.std.proofs.Common.{arith}
 use Rattle.fnv.specs.Products.{half_product, product}
 use Rattle.fnv.proofs.times.Goals as goal
 

@@ -2,7 +2,6 @@
 use mathlib.Core.Path.{◌∙◌}
 use native.Mathlib.Omega.{arith}
 use Rattle.growth.specs.GrowLaws.{grown_refused, stretched_fits, grown_ended}
-use borrow.Author.Rules.{rules}
 use Rattle.growth.proofs.grow.Goals as goal
 
 pub zero_ends-requires : goal.zero_ends-requires

@@ -5,7 +5,6 @@ use Rattle.update.specs.declared.Verdict.{Verdict}
 use Rattle.update.specs.Laid.{laid, bufs}
 use Rattle.update.specs.StepLaws.{ended_next, ended_stop}
 use Rattle.growth.specs.GrowLaws.{patched_fits}
-use borrow.Author.Rules.{rules}
 use Rattle.growth.proofs.zero_ends.Goals as goal
 
 pub returns-in-Refused : goal.returns-in-Refused

@@ -2,7 +2,6 @@
 use mathlib.Core.Path.{sym, ◌∙◌}
 use native.Mathlib.Omega.{arith}
 use Rattle.growth.specs.GrowLaws.{finished_none, finished_same, finished_touch}
-use borrow.Author.Rules.{rules}
 use Rattle.growth.proofs.zero_new_end.Goals as goal
 
 pub returns-then-within-eq0 : goal.returns-then-within-eq0

@@ -3,7 +3,6 @@ use mathlib.Core.Path.{◌≡◌, sym, ap, ◌∙◌}
 use Prim.Native.Nat.{ℕ, ◌-◌, ◌*◌, ◌/◌, min}
 use native.Mathlib.Omega.{arith}
 use Rattle.growth.specs.GrowLaws.{patched_none, patched_over, patched_touch}
-use borrow.Author.Rules.{rules}
 use Rattle.growth.proofs.zero_old_end.Goals as goal
 
 pub returns-then-within-eq0 : goal.returns-then-within-eq0

@@ -4,10 +4,6 @@ use Prim.Native.Nat.{◌+◌, ◌-◌, ◌≤◌}
 use native.Mathlib.Omega.{arith}
 use mathlib.Core.List.{◌++◌}
 use lib.ListN.{length, take, drop, length-append, length-take, length-drop}
-use borrow.Author.Rules.{rules}
-use Rattle.fnv.specs.Fnv.{fold}
-use Rattle.update.specs.Lists.{tabulate_from}
-use Rattle.update.specs.Image.{image_in}
 use Rattle.image.specs.ImageReads.{fold_more, fold_last}
 use Rattle.image.proofs.fold.Goals as goal
 use Rattle.image.proofs.fold.Goals.{After-page-in-loop-at-1, After-part-n}

@@ -1,13 +1,9 @@
-use mathlib.Core.Path.{◌≡◌, sym, ◌∙◌}
-use Prim.Native.Nat.{◌+◌, ◌-◌, ◌≤◌}
-use native.Mathlib.Omega.{arith}
-use mathlib.Core.List.{◌++◌}
-use lib.ListN.{length, take, drop, length-append, length-take, length-drop}
-use borrow.Author.Rules.{rules}
+use mathlib.Core.Path.{◌≡◌}
+use Prim.Native.Nat.{◌-◌}
+use lib.ListN.{length}
 use Rattle.fnv.specs.Fnv.{fold}
 use Rattle.update.specs.Lists.{tabulate_from}
 use Rattle.update.specs.Image.{image_in}
-use Rattle.image.specs.ImageReads.{fold_more, fold_last}
 use Rattle.image.proofs.fold.Given as goal
 
 abbrev pub invariant-loop-at : goal.invariant-loop-at

@@ -3,7 +3,6 @@ use mathlib.Core.Path.{◌≡◌, sym, ap, ◌∙◌}
 use Prim.Native.Nat.{ℕ, ◌+◌, ◌-◌}
 use native.Mathlib.Omega.{arith}
 use lib.ListN.{length, take, drop}
-use borrow.Author.Rules.{rules}
 use Rattle.fnv.specs.Fnv.{fold}
 use Rattle.pool.specs.Stored.{stored_inside}
 use Rattle.image.proofs.fold_stored.Goals as goal

@@ -1,9 +1,7 @@
 -- `image::fold_zeros` meets its contract: zeros, or for a page of them what they multiply by.
 use mathlib.Core.Path.{◌≡◌, sym, ap, ◌∙◌}
 use Prim.Native.Nat.{ℕ}
-use native.Mathlib.Omega.{arith}
 use lib.ListN.{length}
-use borrow.Author.Rules.{rules}
 use Rattle.fnv.specs.Fnv.{fold}
 use Rattle.fnv.specs.Zeros.{fold_zeros}
 use Rattle.image.specs.ImageReads.{fold_zeros_lem}

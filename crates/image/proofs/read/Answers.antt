@@ -6,7 +6,6 @@ use lib.ListN.{length, take, length-take}
 use Rattle.update.specs.Lists.{tabulate_from}
 use Rattle.update.specs.Image.{image_in}
 use Rattle.image.specs.ImageReads.{read_past, read_both}
-use borrow.Author.Rules.{rules}
 use Rattle.image.proofs.read.Goals as goal
 use Rattle.image.proofs.read.Goals.{After-struct_known-3-1}
 

@@ -10,7 +10,6 @@ use Rattle.meta.specs.Stored.{outcome}
 use Rattle.image_runs.specs.Image.{image_runs, image_most}
 use Rattle.image.specs.Reading.{resealed, restored}
 use Rattle.image.specs.ImageReads.{numbers_image}
-use borrow.Author.Rules.{rules}
 use Rattle.image.proofs.restore.Goals as goal
 use Rattle.image.proofs.restore.Goals.{After-runs-2-1}
 

@@ -2,7 +2,6 @@
 use Rattle.runs.specs.Sets.{maximal}
 use Rattle.runs.specs.FlatLaws.{laid_copied}
 use Rattle.image_runs.specs.Image.{image_runs}
-use borrow.Author.Rules.{rules}
 use Rattle.image_runs.proofs.copy_image.Goals as goal
 
 pub returns : goal.returns

@@ -1,15 +1,12 @@
-use Prim.Native.Nat.{ℕ, ◌+◌, ◌-◌, ◌*◌, ◌≤◌, ◌<◌}
-use mathlib.Core.Path.{◌≡◌, sym, ◌∙◌}
+use Prim.Native.Nat.{◌-◌, ◌≤◌}
+use mathlib.Core.Path.{◌≡◌}
 use mathlib.Core.Bool.{true}
-use mathlib.Core.List.{List, ◌∷◌, ◌++◌}
-use native.Mathlib.Omega.{arith}
+use mathlib.Core.List.{◌++◌}
 use lib.ListN.{length}
 use Rattle.meta.specs.Runs.{normalized}
 use Rattle.runs.specs.Sets.{maximal}
 use Rattle.runs.specs.Flat.{runs_in, upto}
-use Rattle.runs.specs.FlatLaws.{none_normalized, gather_start, gather_step, gather_last, add_within, held_normalized, held_runs}
-use Rattle.image_runs.specs.Image.{image_count, image_numbers, image_runs, image_upto, image_at, image_fits, image_most}
-use borrow.Author.Rules.{rules}
+use Rattle.image_runs.specs.Image.{image_numbers, image_runs}
 use Rattle.image_runs.proofs.gather_image.Given as goal
 
 abbrev pub invariant-loop-i : goal.invariant-loop-i

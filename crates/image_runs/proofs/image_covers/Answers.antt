@@ -1,11 +1,7 @@
 -- What is left to search has the page exactly if the image's runs have it: as in `covered`, with the run read from the bytes.
-use Prim.Native.Nat.{◌-◌}
-use mathlib.Core.Path.{◌≡◌, sym, ◌∙◌}
-use Rattle.runs.specs.Sets.{covers}
-use Rattle.runs.specs.Flat.{upto}
+use mathlib.Core.Path.{sym, ◌∙◌}
 use Rattle.runs.specs.FlatLaws.{seek_hit, seek_miss, seek_last}
-use Rattle.image_runs.specs.Image.{image_numbers, image_runs, image_upto, image_at, image_fits}
-use borrow.Author.Rules.{rules}
+use Rattle.image_runs.specs.Image.{image_numbers, image_upto, image_at, image_fits}
 use Rattle.image_runs.proofs.image_covers.Goals as goal
 
 pub loop-i-init : goal.loop-i-init

@@ -1,10 +1,8 @@
 use Prim.Native.Nat.{◌-◌}
-use mathlib.Core.Path.{◌≡◌, sym, ◌∙◌}
+use mathlib.Core.Path.{◌≡◌}
 use Rattle.runs.specs.Sets.{covers}
 use Rattle.runs.specs.Flat.{upto}
-use Rattle.runs.specs.FlatLaws.{seek_hit, seek_miss, seek_last}
-use Rattle.image_runs.specs.Image.{image_numbers, image_runs, image_upto, image_at, image_fits}
-use borrow.Author.Rules.{rules}
+use Rattle.image_runs.specs.Image.{image_numbers, image_runs}
 use Rattle.image_runs.proofs.image_covers.Given as goal
 
 abbrev pub invariant-loop-i : goal.invariant-loop-i

@@ -1,6 +1,5 @@
 use native.Mathlib.Omega.{arith}
 use Rattle.image_runs.specs.Image.{image_count}
-use borrow.Author.Rules.{rules}
 use Rattle.image_runs.proofs.present.Goals as goal
 
 pub returns-then-mem-lt-EXTENTS_OFFSET : goal.returns-then-mem-lt-EXTENTS_OFFSET

@@ -9,7 +9,6 @@ use Rattle.transfer.specs.Steps.{restore_to}
 use Prim.Native.Nat.{ℕ, ◌+◌, ◌*◌, ◌≤◌, ◌<◌}
 use native.Mathlib.Omega.{arith}
 use Rattle.store.specs.Blocks.{after_import_begin}
-use borrow.Author.Rules.{rules}
 use mathlib.Core.Bool.{not}
 use Rattle.imports.proofs.begin_import.Goals as goal
 

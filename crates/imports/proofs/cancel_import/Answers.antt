@@ -2,11 +2,10 @@ use mathlib.Core.Path.{refl, ◌∙◌, ap}
 use mathlib.Core.List.{[]}
 use Rattle.config.specs.declared.refusal.Refusal.TheVariants.{BufferTooShort, UpdateInProgress, ImportNotStarted}
 use Rattle.store.specs.Calls.{import_cancel}
-use Rattle.transfer.specs.StoreCases.{refused_as, answered_as, too_short_lem, is_lent, not_true, not_false, short_refused, updating_refused, idle_acts, cancel_none, cancel_done}
+use Rattle.transfer.specs.StoreCases.{refused_as, answered_as, too_short_lem, is_lent, short_refused, updating_refused, idle_acts, cancel_none, cancel_done}
 use Rattle.meta.specs.declared.superblock.Superblock.{Superblock}
 use Rattle.store.specs.declared.Answer.TheVariants.{Done}
 use Rattle.transfer.specs.Steps.{restore_to}
-use borrow.Author.Rules.{rules}
 use mathlib.Core.Path.{sym}
 use mathlib.Core.Bool.{not}
 use Rattle.imports.proofs.cancel_import.Goals as goal

@@ -2,7 +2,7 @@ use mathlib.Core.Path.{refl, ◌∙◌, ap}
 use mathlib.Core.List.{[]}
 use Rattle.config.specs.declared.refusal.Refusal.TheVariants.{BufferTooShort, UpdateInProgress, ImportNotStarted, ImportIncomplete, ChecksumMismatch}
 use Rattle.store.specs.Calls.{import_finish}
-use Rattle.transfer.specs.StoreCases.{refused_as, answered_as, too_short_lem, is_lent, not_true, not_false, short_refused, updating_refused, idle_acts, finish_none, finish_incomplete, finish_wrong, finish_done}
+use Rattle.transfer.specs.StoreCases.{refused_as, answered_as, too_short_lem, is_lent, short_refused, updating_refused, idle_acts, finish_none, finish_incomplete, finish_wrong, finish_done}
 use Prim.Native.Nat.{ℕ}
 use Rattle.meta.specs.declared.superblock.Superblock.{Superblock}
 use Rattle.meta.specs.Block.{seal, store_in}
@@ -11,7 +11,6 @@ use Rattle.store.specs.declared.State.{State}
 use Rattle.store.specs.declared.Answer.TheVariants.{Done, Refused}
 use Rattle.store.specs.Store.{onward}
 use Rattle.transfer.specs.Steps.{step_out, step, restore_to}
-use borrow.Author.Rules.{rules}
 use mathlib.Core.Path.{sym}
 use mathlib.Core.Bool.{not}
 use Rattle.imports.proofs.finish_import.Goals as goal

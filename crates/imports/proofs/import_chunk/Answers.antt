@@ -4,7 +4,7 @@ use mathlib.Core.Path.{refl, ◌∙◌}
 use mathlib.Core.List.{[]}
 use Rattle.config.specs.declared.refusal.Refusal.TheVariants.{BufferTooShort, UpdateInProgress, ImportNotStarted, ImportOutOfOrder, OffsetOverflow, ImportOutOfBounds}
 use Rattle.store.specs.Calls.{import_chunk}
-use Rattle.transfer.specs.StoreCases.{refused_as, answered_as, too_short_lem, is_lent, not_true, not_false, short_refused, updating_refused, idle_acts, chunk_none, chunk_order, chunk_over, chunk_bounds, chunk_past, chunk_placed}
+use Rattle.transfer.specs.StoreCases.{refused_as, answered_as, too_short_lem, is_lent, short_refused, updating_refused, idle_acts, chunk_none, chunk_order, chunk_over, chunk_bounds, chunk_past, chunk_placed}
 use native.Mathlib.Omega.{arith}
 use borrow.Author.Rules.{rules}
 use mathlib.Core.Path.{ap}

@@ -2,7 +2,6 @@ use mathlib.Core.Path.{ap, ◌∙◌}
 use Rattle.store.specs.declared.Step.{Step}
 use Rattle.transfer.specs.Steps.{step_out}
 use Rattle.transfer.specs.RefreshLaws.{chunk_refused, chunk_grown}
-use borrow.Author.Rules.{rules}
 use Rattle.imports.proofs.place_chunk.Goals as goal
 
 pub returns-in-Refused : goal.returns-in-Refused

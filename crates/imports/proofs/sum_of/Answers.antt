@@ -4,7 +4,6 @@ use native.Mathlib.Omega.{arith}
 use lib.ListN.{take, drop}
 use Rattle.fnv.specs.Fnv.{fnv1a64}
 use Rattle.transfer.specs.RefreshLaws.{bytes_none, bytes_end}
-use borrow.Author.Rules.{rules}
 use Rattle.imports.proofs.sum_of.Goals as goal
 
 pub returns-then-len-at : goal.returns-then-len-at

@@ -2,7 +2,6 @@ use mathlib.Core.Path.{sym, ◌∙◌}
 use Rattle.update.specs.Laid.{bufs}
 use Rattle.transfer.specs.StoreCases.{too_short_lem, is_lent}
 use Rattle.lending.specs.FirstTests.{any_memory, any_buffers, any_work}
-use borrow.Author.Rules.{rules}
 use mathlib.Core.Path.{ap}
 use mathlib.Core.Bool.{not}
 use Rattle.lending.proofs.any_is_short.Goals as goal

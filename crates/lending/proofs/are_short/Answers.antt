@@ -1,7 +1,6 @@
 use mathlib.Core.Path.{sym, ◌∙◌}
 use Rattle.update.specs.Laid.{bufs}
 use Rattle.lending.specs.FirstTests.{buffers_updating, buffers_idle}
-use borrow.Author.Rules.{rules}
 use Rattle.lending.proofs.are_short.Goals as goal
 
 pub returns-then-s : goal.returns-then-s

@@ -4,7 +4,6 @@ use Rattle.update.specs.declared.Budget.{Budget}
 use Rattle.update.specs.Update.{fresh}
 use Rattle.update.specs.Buffers.{overlay_of}
 use Rattle.store.specs.Store.{resting, no_overlay}
-use borrow.Author.Rules.{rules}
 use Rattle.lending.proofs.ended.Goals as goal
 
 pub returns : goal.returns

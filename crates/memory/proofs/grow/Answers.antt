@@ -3,8 +3,6 @@ use mathlib.Core.Path.{◌≡◌, sym}
 use Prim.Native.Nat.{◌-◌, ◌*◌, ◌/◌, ◌≤◌, ◌<◌}
 use native.Mathlib.Omega.{arith}
 use lib.ListN.{length}
-use borrow.Author.Rules.{rules}
-use Rattle.config.specs.Pages.{count}
 use Rattle.memory.specs.Laws.{part_filled}
 use Rattle.memory.specs.Growth.{grow_none, grow_more, grow_refused}
 use Rattle.memory.proofs.grow.Goals as goal

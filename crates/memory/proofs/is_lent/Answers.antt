@@ -5,7 +5,6 @@ use native.Mathlib.Omega.{arith}
 use lib.ListN.{length}
 use lib.Dec.{leb}
 use borrow.Author.Tests.{leb-true, leb-false, le-leb, lt-leb}
-use borrow.Author.Rules.{rules}
 use Rattle.memory.specs.Laws.{split}
 use Rattle.memory.proofs.is_lent.Goals as goal
 

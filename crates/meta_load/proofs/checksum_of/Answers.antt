@@ -4,7 +4,6 @@ use mathlib.Core.List.{[], ◌∷◌}
 use Prim.Native.Nat.{ℕ}
 use native.Mathlib.Omega.{arith}
 use lib.ListN.{take, length-take}
-use borrow.Author.Rules.{rules}
 use Rattle.memory.specs.Bytes.{zeros}
 use Rattle.fnv.specs.Fnv.{fnv_is, fold, basis}
 use Rattle.meta.specs.Block.{offset_is}

@@ -1,5 +1,4 @@
 -- `meta::extent_at` meets its contract.
-use borrow.Author.Rules.{rules}
 use Rattle.meta.specs.Runs.{run}
 use Rattle.meta_load.proofs.extent_at.Goals as goal
 

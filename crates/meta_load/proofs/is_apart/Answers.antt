@@ -2,7 +2,6 @@
 use mathlib.Core.Path.{sym}
 use Prim.Native.Nat.{◌+◌, ◌<◌}
 use native.Mathlib.Omega.{arith}
-use borrow.Author.Rules.{rules}
 use Rattle.meta.specs.Runs.{apart_empty, apart_last, apart_next}
 use Rattle.meta_load.proofs.is_apart.Goals as goal
 

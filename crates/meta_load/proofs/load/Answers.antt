@@ -4,7 +4,6 @@ use mathlib.Core.List.{[]}
 use Prim.Native.Nat.{◌≤◌}
 use native.Mathlib.Omega.{arith}
 use lib.ListN.{length}
-use borrow.Author.Rules.{rules}
 use Rattle.config.specs.declared.refusal.Refusal.TheVariants.{MetaChecksumMismatch}
 use Rattle.meta_load.specs.declared.Loaded.TheVariants.{Block, Refused}
 use Rattle.meta.specs.Runs.{normalized as isNormalized}

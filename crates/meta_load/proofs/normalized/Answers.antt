@@ -1,11 +1,10 @@
 -- `meta::normalized` meets its contract: the runs from `i` on are normalized exactly when all are.
 use mathlib.Core.Path.{◌≡◌, refl, sym, ap, ◌∙◌}
-use Prim.Native.Nat.{◌*◌, ◌-◌, ◌/◌, ◌≤◌}
+use Prim.Native.Nat.{◌-◌, ◌/◌}
 use native.Mathlib.Omega.{arith}
-use lib.ListN.{length, drop}
-use borrow.Author.Tests.{not-true, not-false}
+use lib.ListN.{length}
 use borrow.Author.Rules.{rules}
-use Rattle.meta.specs.Runs.{runs_in, runs_in-end, normalized_nil, normalized_turn, normalized_stop, normalized as isNormalized}
+use Rattle.meta.specs.Runs.{runs_in-end, normalized_nil, normalized_turn, normalized_stop, normalized as isNormalized}
 use Rattle.meta_load.proofs.normalized.Goals as goal
 
 pub loop-i-init : goal.loop-i-init

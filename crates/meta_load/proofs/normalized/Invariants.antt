@@ -1,10 +1,7 @@
-use mathlib.Core.Path.{◌≡◌, refl, sym, ap, ◌∙◌}
-use Prim.Native.Nat.{◌*◌, ◌-◌, ◌/◌, ◌≤◌}
-use native.Mathlib.Omega.{arith}
-use lib.ListN.{length, drop}
-use borrow.Author.Tests.{not-true, not-false}
-use borrow.Author.Rules.{rules}
-use Rattle.meta.specs.Runs.{runs_in, runs_in-end, normalized_nil, normalized_turn, normalized_stop, normalized as isNormalized}
+use mathlib.Core.Path.{◌≡◌}
+use Prim.Native.Nat.{◌*◌, ◌-◌, ◌≤◌}
+use lib.ListN.{drop}
+use Rattle.meta.specs.Runs.{runs_in, normalized as isNormalized}
 use Rattle.meta_load.proofs.normalized.Given as goal
 
 abbrev pub invariant-loop-i : goal.invariant-loop-i

@@ -7,14 +7,13 @@ use mathlib.Core.List.{List}
 use lib.ListN.{length, take, length-take}
 use lib.Seq.{length-take-le}
 use Rattle.update.specs.declared.Overlay.{Overlay}
-use Rattle.update.specs.Buffers.{Buffers, short_buffers}
-use Rattle.update.specs.Laid.{bufs, Fits, settle}
+use Rattle.update.specs.Buffers.{short_buffers}
+use Rattle.update.specs.Laid.{bufs, Fits}
 use Rattle.update.specs.SettleLaws.{settle_fits}
 use Rattle.overlay_reads.specs.declared.Reading.TheVariants.{Full, Short}
 use Rattle.overlay_reads.specs.Reads.{seen}
 use Rattle.overlay_reads.specs.ReadLaws.{settle_size, at_short, at_empty, at_past, at_whole, at_cut}
 use Rattle.update.specs.ListLaws.{part_tail}
-use borrow.Author.Rules.{rules}
 use Rattle.overlay_reads.proofs.read_at.Goals as goal
 use Rattle.overlay_reads.proofs.read_at.Goals.{After-settle-settled}
 

@@ -12,7 +12,6 @@ use Rattle.update.specs.Laid.{clean_seen}
 use Rattle.pool.specs.CacheLaws.{settled_most, settled_cached}
 use Rattle.overlay_reads.specs.ReadLaws.{read_hit, taken_few, taken-length, read_miss}
 use Rattle.update.specs.ListLaws.{copied}
-use borrow.Author.Rules.{rules}
 use Rattle.overlay_reads.proofs.read_clean.Goals as goal
 use Rattle.overlay_reads.proofs.read_clean.Goals.{After-find-at, After-insert-cache, Start}
 

@@ -7,14 +7,12 @@ use mathlib.Core.List.{List}
 use lib.ListN.{length, take, drop}
 use Rattle.runs.specs.Flat.{runs_in}
 use Rattle.runs.specs.Sets.{covers}
-use Rattle.update.specs.Buffers.{Buffers}
 use Rattle.update.specs.Laid.{bufs, clean_seen}
 use Rattle.update.specs.TouchLaws.{place_in, frame_held}
 use Rattle.overlay_reads.specs.declared.Reading.TheVariants.{Full}
 use Rattle.overlay_reads.specs.Reads.{seen}
 use Rattle.overlay_reads.specs.ReadLaws.{read_dirty, read_covered, read_uncovered}
 use Rattle.update.specs.ListLaws.{copied}
-use borrow.Author.Rules.{rules}
 use Rattle.overlay_reads.proofs.read_page.Goals as goal
 use Rattle.overlay_reads.proofs.read_page.Goals.{After-find-at, Then-at-dirty}
 

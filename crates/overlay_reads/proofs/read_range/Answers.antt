@@ -7,7 +7,6 @@ use lib.ListN.{length, take, drop}
 use lib.Seq.{take_all}
 use borrow.Rule.Slice.PartMut.{put_mid}
 use Rattle.memory.specs.Laws.{length_part}
-use Rattle.update.specs.Buffers.{Buffers}
 use Rattle.update.specs.Laid.{bufs}
 use Rattle.overlay_reads.specs.declared.Reading.TheVariants.{Full}
 use Rattle.overlay_reads.specs.Reads.{seen, range_read}

@@ -1,18 +1,9 @@
-use mathlib.Core.Path.{◌≡◌, sym, ap, ◌∙◌}
-use Prim.Native.Nat.{ℕ, ◌+◌, ◌-◌, ◌≤◌}
-use native.Mathlib.Omega.{arith}
-use mathlib.Core.List.{List, ◌++◌}
-use lib.ListN.{length, take, drop}
-use lib.Seq.{take_all}
-use borrow.Rule.Slice.PartMut.{put_mid}
-use Rattle.memory.specs.Laws.{length_part}
-use Rattle.update.specs.Buffers.{Buffers}
+use mathlib.Core.Path.{◌≡◌}
+use Prim.Native.Nat.{◌-◌, ◌≤◌}
+use lib.ListN.{length, take}
 use Rattle.update.specs.Laid.{bufs}
 use Rattle.overlay_reads.specs.declared.Reading.TheVariants.{Full}
 use Rattle.overlay_reads.specs.Reads.{seen, range_read}
-use Rattle.overlay_reads.specs.ReadLaws.{range_none, range_step, range_fits}
-use Rattle.update.specs.ListLaws.{part_front}
-use borrow.Author.Rules.{rules}
 use Rattle.overlay_reads.proofs.read_range.Given as goal
 
 abbrev pub invariant-loop-done : goal.invariant-loop-done

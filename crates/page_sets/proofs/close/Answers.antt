@@ -1,8 +1,5 @@
 -- To store at `to` the runs from k on is, at every turn, to store at o those from j on.
-use Prim.Native.Nat.{◌-◌, ◌≤◌}
-use mathlib.Core.Path.{◌≡◌, sym, ◌∙◌}
-use lib.ListN.{length}
-use Rattle.runs.specs.Flat.{write, upto}
+use mathlib.Core.Path.{sym, ◌∙◌}
 use Rattle.runs.specs.FlatLaws.{close_step, close_last}
 use borrow.Author.Rules.{rules}
 use Rattle.page_sets.proofs.close.Goals as goal

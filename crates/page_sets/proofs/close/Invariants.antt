@@ -1,9 +1,7 @@
 use Prim.Native.Nat.{◌-◌, ◌≤◌}
-use mathlib.Core.Path.{◌≡◌, sym, ◌∙◌}
+use mathlib.Core.Path.{◌≡◌}
 use lib.ListN.{length}
 use Rattle.runs.specs.Flat.{write, upto}
-use Rattle.runs.specs.FlatLaws.{close_step, close_last}
-use borrow.Author.Rules.{rules}
 use Rattle.page_sets.proofs.close.Given as goal
 
 abbrev pub invariant-loop-k : goal.invariant-loop-k

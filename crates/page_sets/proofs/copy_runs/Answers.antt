@@ -2,7 +2,6 @@
 use Rattle.runs.specs.Sets.{maximal}
 use Rattle.runs.specs.FlatLaws.{laid_copied}
 use Rattle.runs.specs.Flat.{runs_in}
-use borrow.Author.Rules.{rules}
 use Rattle.page_sets.proofs.copy_runs.Goals as goal
 
 pub returns : goal.returns

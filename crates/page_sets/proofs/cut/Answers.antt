@@ -8,7 +8,6 @@ use Rattle.runs.specs.Sets.{piece}
 use Rattle.runs.specs.Members.{piece_none, piece_some}
 use Rattle.runs.specs.Flat.{Out, out, put, upto, write}
 use Rattle.runs.specs.FlatLaws.{write_same, write_cons, put_step, upto_put}
-use borrow.Author.Rules.{rules}
 use Rattle.page_sets.proofs.cut.Goals as goal
 
 -- the run s .. e at place i without page p, where w' is the list after a piece was stored there

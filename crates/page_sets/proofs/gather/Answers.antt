@@ -1,13 +1,11 @@
 -- The runs that are left, with those gathered, have the maximal runs of all: a turn moves one run from the former to the latter.
-use Prim.Native.Nat.{ℕ, ◌-◌, ◌*◌, ◌≤◌, ◌<◌, min}
+use Prim.Native.Nat.{ℕ, ◌*◌, ◌≤◌, ◌<◌, min}
 use mathlib.Core.Path.{◌≡◌, sym, ◌∙◌}
-use mathlib.Core.Bool.{true}
-use mathlib.Core.List.{◌∷◌, ◌++◌}
+use mathlib.Core.List.{◌∷◌}
 use native.Mathlib.Omega.{arith}
 use lib.ListN.{length}
-use Rattle.meta.specs.Runs.{normalized}
 use Rattle.runs.specs.Sets.{maximal}
-use Rattle.runs.specs.Flat.{runs_in, upto}
+use Rattle.runs.specs.Flat.{runs_in}
 use Rattle.runs.specs.FlatLaws.{upto_most, none_normalized, gather_start, gather_step, gather_last, add_within, held_normalized, held_runs}
 use borrow.Author.Rules.{rules}
 use Rattle.page_sets.proofs.gather.Goals as goal

@@ -1,14 +1,11 @@
-use Prim.Native.Nat.{ℕ, ◌-◌, ◌*◌, ◌≤◌, ◌<◌, min}
-use mathlib.Core.Path.{◌≡◌, sym, ◌∙◌}
+use Prim.Native.Nat.{◌-◌, ◌≤◌}
+use mathlib.Core.Path.{◌≡◌}
 use mathlib.Core.Bool.{true}
-use mathlib.Core.List.{◌∷◌, ◌++◌}
-use native.Mathlib.Omega.{arith}
+use mathlib.Core.List.{◌++◌}
 use lib.ListN.{length}
 use Rattle.meta.specs.Runs.{normalized}
 use Rattle.runs.specs.Sets.{maximal}
 use Rattle.runs.specs.Flat.{runs_in, upto}
-use Rattle.runs.specs.FlatLaws.{upto_most, none_normalized, gather_start, gather_step, gather_last, add_within, held_normalized, held_runs}
-use borrow.Author.Rules.{rules}
 use Rattle.page_sets.proofs.gather.Given as goal
 
 abbrev pub invariant-loop-i : goal.invariant-loop-i

@@ -1,9 +1,6 @@
 -- The run lo .. hi in front of the runs from j on takes up, at every turn, what start .. end takes up of those from i on.
-use Prim.Native.Nat.{◌-◌, ◌≤◌}
-use mathlib.Core.Path.{◌≡◌, ◌∙◌}
+use mathlib.Core.Path.{◌∙◌}
 use Rattle.meta.specs.Runs.{run}
-use Rattle.runs.specs.Sets.{merge}
-use Rattle.runs.specs.Flat.{upto}
 use Rattle.runs.specs.FlatLaws.{meet_step, meet_here, meet_last}
 use borrow.Author.Rules.{rules}
 use Rattle.page_sets.proofs.meet.Goals as goal

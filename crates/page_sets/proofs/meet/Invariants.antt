@@ -1,10 +1,8 @@
 use Prim.Native.Nat.{◌-◌, ◌≤◌}
-use mathlib.Core.Path.{◌≡◌, ◌∙◌}
+use mathlib.Core.Path.{◌≡◌}
 use Rattle.meta.specs.Runs.{run}
 use Rattle.runs.specs.Sets.{merge}
 use Rattle.runs.specs.Flat.{upto}
-use Rattle.runs.specs.FlatLaws.{meet_step, meet_here, meet_last}
-use borrow.Author.Rules.{rules}
 use Rattle.page_sets.proofs.meet.Given as goal
 
 abbrev pub invariant-loop-j : goal.invariant-loop-j

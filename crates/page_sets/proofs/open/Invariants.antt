@@ -1,12 +1,8 @@
-use Prim.Native.Nat.{ℕ, ◌+◌, ◌-◌, ◌≤◌}
-use mathlib.Core.Path.{◌≡◌, sym, ◌∙◌}
-use mathlib.Core.List.{List, ◌∷◌}
-use native.Mathlib.Omega.{arith}
+use Prim.Native.Nat.{◌-◌, ◌≤◌}
+use mathlib.Core.Path.{◌≡◌}
+use mathlib.Core.List.{◌∷◌}
 use lib.ListN.{length}
-use Rattle.meta.specs.declared.ZeroExtent.{ZeroExtent}
-use Rattle.runs.specs.Flat.{Out, out, put, write, upto}
-use Rattle.runs.specs.FlatLaws.{open_step, open_last}
-use borrow.Author.Rules.{rules}
+use Rattle.runs.specs.Flat.{write, upto}
 use Rattle.page_sets.proofs.open.Given as goal
 
 abbrev pub invariant-loop-k : goal.invariant-loop-k

@@ -1,6 +1,5 @@
 use mathlib.Core.Path.{sym, ap}
 use Rattle.reading.specs.Views.{read_answer}
-use borrow.Author.Rules.{rules}
 use Rattle.reading.proofs.answer_of.Goals as goal
 
 pub returns-in-Refused : goal.returns-in-Refused

@@ -4,7 +4,6 @@ use Rattle.store.specs.Codec.{real_codec}
 use Rattle.store.specs.Calls.{mode_if}
 use Rattle.store.specs.Store.{dirty_in}
 use Rattle.transfer.specs.StoreCases.{not_true, not_false}
-use borrow.Author.Rules.{rules}
 use Rattle.reading.proofs.dirty_page.Goals as goal
 
 pub returns-then-not-s : goal.returns-then-not-s

@@ -5,7 +5,6 @@ use lib.Dec.{ltb}
 use Rattle.store.specs.Calls.{mode_if}
 use Rattle.transfer.specs.StoreCases.{not_true, not_false}
 use Rattle.reading.specs.Views.{frames_short}
-use borrow.Author.Rules.{rules}
 use Rattle.reading.proofs.frames_are_short.Goals as goal
 
 pub returns-then-not-s : goal.returns-then-not-s

@@ -1,4 +1,4 @@
-use mathlib.Core.Path.{refl, sym, ap, ◌∙◌}
+use mathlib.Core.Path.{sym, ap, ◌∙◌}
 use mathlib.Core.Bool.{Bool}
 use mathlib.Core.List.{List}
 use Prim.Native.Nat.{ℕ}
@@ -15,9 +15,8 @@ use Rattle.store.specs.Codec.{real_codec}
 use Rattle.store.specs.Calls.{out}
 use Rattle.store.specs.Store.{full, working}
 use Rattle.transfer.specs.OnMemory.{lent}
-use Rattle.transfer.specs.StoreCases.{refused_as, too_short_lem, is_lent, not_true, not_false}
+use Rattle.transfer.specs.StoreCases.{refused_as, too_short_lem, is_lent}
 use Rattle.reading.specs.ReadCases.{read_memory, read_buffers, read_idle, read_updating}
-use borrow.Author.Rules.{rules}
 use mathlib.Core.Bool.{not}
 use borrow.Author.Tests.{not-true, not-false}
 use Rattle.reading.proofs.read_at.Goals as goal

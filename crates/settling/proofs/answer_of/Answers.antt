@@ -1,6 +1,5 @@
 use mathlib.Core.Path.{sym, ap}
 use Rattle.settling.specs.Changing.{verdict_answer}
-use borrow.Author.Rules.{rules}
 use Rattle.settling.proofs.answer_of.Goals as goal
 
 pub returns-in-Refused : goal.returns-in-Refused

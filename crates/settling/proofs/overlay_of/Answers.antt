@@ -1,6 +1,5 @@
 use mathlib.Core.Path.{◌∙◌}
 use Rattle.settling.specs.ChangeLaws.{overlay_open, overlay_begun}
-use borrow.Author.Rules.{rules}
 use Rattle.settling.proofs.overlay_of.Goals as goal
 
 pub returns-then-s : goal.returns-then-s

@@ -1,7 +1,6 @@
 use mathlib.Core.Path.{◌∙◌}
 use Rattle.update.specs.Laid.{bufs}
 use Rattle.settling.specs.ChangeLaws.{settled_open, settled_accepted, settled_refused}
-use borrow.Author.Rules.{rules}
 use Rattle.settling.proofs.settle.Goals as goal
 
 pub returns-then-s : goal.returns-then-s

@@ -17,12 +17,11 @@ use Rattle.update.specs.declared.Verdict.{Verdict}
 use Rattle.update.specs.declared.Verdict.TheVariants.{Accepted}
 use Rattle.update.specs.Admit.{admitted}
 use Rattle.update.specs.Image.{image_in}
-use Rattle.update.specs.Buffers.{Buffers, frame_count}
+use Rattle.update.specs.Buffers.{frame_count}
 use Rattle.update.specs.Frames.{LoadOut, load_out, load_laid}
 use Rattle.update.specs.Laid.{Laid, bufs, laid}
 use Rattle.update.specs.TouchLaws.{place_in, moved, few_frames, number_free, frame_free, load_held, load_refused, load_new}
 use Rattle.touch.specs.Asked.{answered}
-use borrow.Author.Rules.{rules}
 use Rattle.touch.proofs.load_dirty_page.Goals as goal
 use Rattle.touch.proofs.load_dirty_page.Goals.{After-admit-asked, In_default, Start}
 

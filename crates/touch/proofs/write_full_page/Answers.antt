@@ -9,11 +9,10 @@ use Rattle.memory.specs.Bytes.{overwrite}
 use Rattle.update.specs.declared.Verdict.{Verdict}
 use Rattle.update.specs.declared.Verdict.TheVariants.{Accepted}
 use Rattle.update.specs.Admit.{admitted}
-use Rattle.update.specs.Buffers.{Buffers, frame_count}
+use Rattle.update.specs.Buffers.{frame_count}
 use Rattle.update.specs.Laid.{bufs, laid}
 use Rattle.update.specs.TouchLaws.{place_in, moved, load_refused, whole_held, whole_new, free_frame}
 use Rattle.touch.specs.Asked.{answered}
-use borrow.Author.Rules.{rules}
 use Rattle.touch.proofs.write_full_page.Goals as goal
 use Rattle.touch.proofs.write_full_page.Goals.{After-admit-asked, In_default, Start}
 

@@ -8,10 +8,8 @@ use lib.ListN.{length}
 use Rattle.memory.specs.Bytes.{overwrite}
 use Rattle.update.specs.declared.Verdict.{Verdict}
 use Rattle.update.specs.declared.Verdict.TheVariants.{Accepted}
-use Rattle.update.specs.Buffers.{Buffers}
 use Rattle.update.specs.Laid.{bufs, laid, same, touched}
 use Rattle.update.specs.TouchLaws.{place_in, refused_alike, frame_loaded, touched_copy}
-use borrow.Author.Rules.{rules}
 use Rattle.touch.proofs.write_part.Goals as goal
 use Rattle.touch.proofs.write_part.Goals.{After-load_dirty_page-loaded, In_default}
 

@@ -10,10 +10,8 @@ use Rattle.memory.specs.Bytes.{zeros, overwrite}
 use Rattle.memory.specs.Laws.{part_filled}
 use Rattle.update.specs.declared.Verdict.{Verdict}
 use Rattle.update.specs.declared.Verdict.TheVariants.{Accepted}
-use Rattle.update.specs.Buffers.{Buffers}
 use Rattle.update.specs.Laid.{bufs, laid, same, touched}
 use Rattle.update.specs.TouchLaws.{place_in, refused_alike, frame_loaded, touched_blank}
-use borrow.Author.Rules.{rules}
 use Rattle.touch.proofs.zero_part.Goals as goal
 use Rattle.touch.proofs.zero_part.Goals.{After-load_dirty_page-loaded, In_default}
 

@@ -2,7 +2,6 @@ use native.Mathlib.Omega.{arith}
 use Rattle.update.specs.Laid.{bufs}
 use Rattle.update.specs.TouchLaws.{few_numbers, few_frames}
 use Rattle.truncation.specs.CutLaws.{chopped_refused, chopped_dropped}
-use borrow.Author.Rules.{rules}
 use Rattle.truncation.proofs.chop.Goals as goal
 
 pub drop_pages-requires : goal.drop_pages-requires

@@ -4,7 +4,6 @@ use Rattle.update.specs.Laid.{bufs}
 use Rattle.update.specs.LeaveLaws.{told}
 use Rattle.update.specs.StepLaws.{cut_stop, cut_next}
 use Rattle.update.specs.FitLaws.{chopped_fits}
-use borrow.Author.Rules.{rules}
 use Rattle.truncation.proofs.cut.Goals as goal
 
 pub returns-in-Refused : goal.returns-in-Refused

@@ -3,7 +3,6 @@ use Prim.Native.Nat.{ℕ}
 use Rattle.update.specs.declared.Overlay.{Overlay}
 use Rattle.update.specs.Frames.{Pool, CacheOut, cache_out}
 use Rattle.update.specs.Laid.{Dropped, dropped, below_count}
-use borrow.Author.Rules.{rules}
 use Rattle.truncation.proofs.drop_pages.Goals as goal
 
 -- the overlay and the slices with these pages in them

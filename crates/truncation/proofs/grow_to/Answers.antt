@@ -4,7 +4,6 @@ use native.Mathlib.Omega.{arith}
 use Rattle.update.specs.declared.Verdict.{Verdict}
 use Rattle.update.specs.Laid.{laid, bufs}
 use Rattle.growth.specs.GrowLaws.{rests_same, grows_accepted, grows_refused}
-use borrow.Author.Rules.{rules}
 use Rattle.truncation.proofs.grow_to.Goals as goal
 
 pub returns-then-size-o : goal.returns-then-size-o

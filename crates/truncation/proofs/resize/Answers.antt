@@ -4,7 +4,6 @@ use Rattle.update.specs.Laid.{bufs}
 use Rattle.update.specs.LeaveLaws.{told}
 use Rattle.update.specs.StepLaws.{resized_stop, resized_next}
 use Rattle.update.specs.FitLaws.{grown_to-fits}
-use borrow.Author.Rules.{rules}
 use Rattle.truncation.proofs.resize.Goals as goal
 
 pub returns-in-Refused : goal.returns-in-Refused

@@ -2,7 +2,6 @@
 use mathlib.Core.Path.{sym, ◌∙◌}
 use native.Mathlib.Omega.{arith}
 use Rattle.growth.specs.GrowLaws.{tailed_none, tailed_touch}
-use borrow.Author.Rules.{rules}
 use Rattle.truncation.proofs.zero_tail.Goals as goal
 
 pub returns-then-within-eq0 : goal.returns-then-within-eq0

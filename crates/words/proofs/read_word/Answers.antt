@@ -1,6 +1,5 @@
 -- `words::read_word` meets its contract: a sum of the bytes, each by its power of 256.
 use native.Mathlib.Omega.{arith}
-use borrow.Author.Rules.{rules}
 use Rattle.words.specs.Words.{word_at_sum}
 use Rattle.words.proofs.read_word.Goals as goal
 

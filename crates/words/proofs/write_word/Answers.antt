@@ -5,7 +5,6 @@ use Prim.Native.Nat.{ℕ}
 use native.Mathlib.Numerals.{towards_suc}
 use native.Mathlib.Omega.{arith}
 use lib.ListN.{length-set}
-use borrow.Author.Rules.{rules}
 use Rattle.memory.specs.Bytes.{overwrite}
 use Rattle.words.specs.Words.{eight, word_eight, sets_overwrite}
 use Rattle.words.proofs.write_word.Goals as goal

@@ -1,6 +1,5 @@
 use borrow.Author.Tests.{eq-eqb, ne_eqb}
 use Rattle.update.specs.Update.{whole_page}
-use borrow.Author.Rules.{rules}
 use Rattle.writing.proofs.is_full_page.Goals as goal
 
 pub returns-then-n-ne-PAGE_LEN : goal.returns-then-n-ne-PAGE_LEN

@@ -7,7 +7,6 @@ use Rattle.update.specs.Update.{copy}
 use Rattle.update.specs.Buffers.{frame_count}
 use Rattle.update.specs.Laid.{bufs, touched}
 use Rattle.writing.specs.WriteLaws.{whole_is, puts_whole, puts_pages}
-use borrow.Author.Rules.{rules}
 use Rattle.writing.proofs.put.Goals as goal
 
 pub write_full_page-requires : goal.write_full_page-requires

@@ -4,7 +4,6 @@ use Rattle.update.specs.Laid.{bufs}
 use Rattle.update.specs.LeaveLaws.{told}
 use Rattle.update.specs.StepLaws.{wrote_inside, wrote_stop, wrote_next}
 use Rattle.update.specs.FitLaws.{grown_fits}
-use borrow.Author.Rules.{rules}
 use Rattle.writing.proofs.write.Goals as goal
 
 pub returns-then-end-o : goal.returns-then-end-o

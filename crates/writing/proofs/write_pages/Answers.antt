@@ -1,12 +1,10 @@
 use mathlib.Core.Path.{◌≡◌, ap, ◌∙◌}
 use mathlib.Core.Bool.{true}
-use Prim.Native.Nat.{ℕ, ◌+◌, ◌-◌, ◌/◌, ◌%◌, ◌≤◌, ◌<◌, min}
+use Prim.Native.Nat.{ℕ, ◌+◌, ◌-◌, ◌<◌, min}
 use native.Mathlib.Omega.{arith}
 use lib.ListN.{length}
 use borrow.Author.Rules.{rules}
-use Rattle.update.specs.Pages.{span}
-use Rattle.update.specs.Update.{copy}
-use Rattle.update.specs.Laid.{bufs, Fits, touched_all}
+use Rattle.update.specs.Laid.{bufs}
 use Rattle.update.specs.LeaveLaws.{told}
 use Rattle.update.specs.FitLaws.{touched_fits}
 use Rattle.writing.specs.WriteLaws.{pages_all, pages_next, pages_stop, pages_aligned, pages_done}

@@ -2,7 +2,6 @@
 use mathlib.Core.Path.{sym, ap, ◌∙◌}
 use mathlib.Core.List.{[], ◌∷◌}
 use borrow.Author.Tests.{lt-ltb}
-use borrow.Author.Rules.{rules}
 use Rattle.config.specs.declared.refusal.Numbers.{Numbers}
 use Rattle.memory.specs.declared.Growth.{Growth}
 use Rattle.memory.specs.Bytes.{overwrite}

@@ -1,7 +1,6 @@
 -- `yuharopu_plan` meets its contract: the plan of `extents`, shown.
 use mathlib.Core.Path.{sym, ap, ◌∙◌}
 use borrow.Author.Tests.{lt-ltb, le-ltb}
-use borrow.Author.Rules.{rules}
 use Rattle.config.specs.declared.refusal.Numbers.{Numbers}
 use Rattle.memory.specs.Laws.{set_overwrite}
 use Rattle.extents.specs.declared.Planned.{Planned}

@@ -3,7 +3,6 @@ use Prim.Native.Nat.{ℕ}
 use mathlib.Core.Path.{ap, ◌∙◌}
 use mathlib.Core.List.{List}
 use borrow.Author.Tests.{lt-ltb, le-ltb}
-use borrow.Author.Rules.{rules}
 use Rattle.memory.specs.Bytes.{overwrite}
 use Rattle.meta.specs.Block.{numbers_of}
 use Rattle.yuharopu.specs.Exports.{answer, fresh_fields}

@@ -3,7 +3,6 @@ use mathlib.Core.List.{[], ◌∷◌, List}
 use Prim.Native.Nat.{ℕ}
 use mathlib.Core.Path.{◌≡◌, refl, sym, ap, ◌∙◌}
 use borrow.Author.Tests.{lt-ltb, le-ltb}
-use borrow.Author.Rules.{rules}
 use Rattle.config.specs.declared.refusal.Numbers.{Numbers}
 use Rattle.memory.specs.Bytes.{zeros, overwrite}
 use Rattle.meta.specs.Block.{numbers_of}

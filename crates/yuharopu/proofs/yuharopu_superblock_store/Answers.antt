@@ -3,7 +3,6 @@ use mathlib.Core.Path.{◌≡◌, sym, ap, ◌∙◌}
 use native.Mathlib.Omega.{arith}
 use lib.ListN.{length-take}
 use borrow.Author.Tests.{lt-ltb, le-ltb}
-use borrow.Author.Rules.{rules}
 use Rattle.meta.specs.Stored.{Outcome}
 use Rattle.yuharopu.specs.Exports.{answer, store_fields, store_block, store_shown}
 use Rattle.yuharopu.proofs.yuharopu_superblock_store.Goals as goal

@@ -1,6 +1,5 @@
 use mathlib.Core.Path.{◌∙◌}
 use mathlib.Core.Bool.{or-false}
-use borrow.Author.Rules.{rules}
 use Rattle.runs.specs.Flat.{runs_in}
 use Rattle.zero_pages.proofs.in_run.Goals as goal
 

@@ -1,4 +1,4 @@
-use Rattle.std.proofs.Common.{◌-◌, ◌≡◌, ℕ, length, drop}
+use Rattle.std.proofs.Common.{◌-◌, ◌≡◌, drop}
 use Rattle.runs.specs.Sets.{covers}
 use Rattle.zero_pages.proofs.is_zero.Given as goal
 

@@ -6,7 +6,6 @@ use Rattle.overlay.specs.Calls.{truncate_to}
 use Rattle.transfer.specs.OnMemory.{lent}
 use Rattle.transfer.specs.StoreCases.{refused_as}
 use Rattle.settling.specs.ChangeLaws.{truncate_short, truncate_leaves, truncate_is}
-use borrow.Author.Rules.{rules}
 use Rattle.blob.proofs.changing.truncate.Goals as goal
 
 pub returns-then-any_is_short : goal.returns-then-any_is_short

@@ -6,7 +6,6 @@ use Rattle.overlay.specs.Calls.{write_at}
 use Rattle.transfer.specs.OnMemory.{lent}
 use Rattle.transfer.specs.StoreCases.{refused_as}
 use Rattle.settling.specs.ChangeLaws.{write_short, write_leaves, write_is}
-use borrow.Author.Rules.{rules}
 use Rattle.blob.proofs.changing.write_at.Goals as goal
 
 pub returns-then-any_is_short : goal.returns-then-any_is_short

@@ -1,11 +1,7 @@
-use mathlib.Core.Path.{◌≡◌, refl, sym, ap, ◌∙◌}
+use mathlib.Core.Path.{◌≡◌}
 use Prim.Native.Nat.{ℕ, ◌-◌, ◌*◌, ◌≤◌, ◌<◌}
-use native.Mathlib.Omega.{arith}
-use lib.ListN.{length, get_or, set, length-set}
-use lib.Seq.{ext_get_or, get_or-set_same, get_or-set_other}
-use borrow.Author.Count.{below_more}
-use Rattle.words.specs.Words.{word_at, words_in, words_in_at, length-words_in}
-use borrow.Author.Rules.{rules}
+use lib.ListN.{length, get_or}
+use Rattle.words.specs.Words.{word_at}
 use Rattle.encoding.proofs.number_bytes.read_words.Given as goal
 
 abbrev pub invariant-loop-k : goal.invariant-loop-k

@@ -1,12 +1,10 @@
 -- `write_words` meets its contract: before each turn the first `k` numbers are written.
-use mathlib.Core.Path.{◌≡◌, refl, sym, ◌∙◌}
-use Prim.Native.Nat.{◌-◌, ◌≤◌}
+use mathlib.Core.Path.{refl, sym, ◌∙◌}
+use Prim.Native.Nat.{◌-◌}
 use native.Mathlib.Omega.{arith}
-use lib.ListN.{length, take}
 use lib.Seq.{take_all}
-use Rattle.memory.specs.Bytes.{overwrite}
 use Rattle.memory.specs.Laws.{overwrite_nil}
-use Rattle.words.specs.Words.{words, words_more}
+use Rattle.words.specs.Words.{words_more}
 use borrow.Author.Rules.{rules}
 use Rattle.encoding.proofs.number_bytes.write_words.Goals as goal
 

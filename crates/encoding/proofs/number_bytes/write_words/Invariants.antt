@@ -1,12 +1,8 @@
-use mathlib.Core.Path.{◌≡◌, refl, sym, ◌∙◌}
+use mathlib.Core.Path.{◌≡◌}
 use Prim.Native.Nat.{◌-◌, ◌≤◌}
-use native.Mathlib.Omega.{arith}
 use lib.ListN.{length, take}
-use lib.Seq.{take_all}
 use Rattle.memory.specs.Bytes.{overwrite}
-use Rattle.memory.specs.Laws.{overwrite_nil}
-use Rattle.words.specs.Words.{words, words_more}
-use borrow.Author.Rules.{rules}
+use Rattle.words.specs.Words.{words}
 use Rattle.encoding.proofs.number_bytes.write_words.Given as goal
 
 abbrev pub invariant-loop-k : goal.invariant-loop-k

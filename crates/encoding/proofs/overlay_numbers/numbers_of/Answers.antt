@@ -2,7 +2,6 @@
 use Prim.Native.Nat.{ℕ}
 use mathlib.Core.Path.{ap}
 use Rattle.encoding.specs.StateBytes.{numbers_with, overlay_numbers}
-use borrow.Author.Rules.{rules}
 use Rattle.encoding.proofs.overlay_numbers.numbers_of.Goals as goal
 
 pub returns : goal.returns

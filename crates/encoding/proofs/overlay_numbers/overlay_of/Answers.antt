@@ -1,7 +1,6 @@
 -- `overlay_of` meets its contract.
 use mathlib.Core.Path.{refl}
 use Rattle.encoding.specs.StateBytes.{overlay_of}
-use borrow.Author.Rules.{rules}
 use Rattle.encoding.proofs.overlay_numbers.overlay_of.Goals as goal
 
 pub returns : goal.returns

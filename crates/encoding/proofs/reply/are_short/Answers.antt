@@ -2,7 +2,6 @@
 use mathlib.Core.Path.{refl}
 use borrow.Author.Tests.{eq-eqb, ne_eqb}
 use Rattle.encoding.specs.Called.{too_short}
-use borrow.Author.Rules.{rules}
 use Rattle.encoding.proofs.reply.are_short.Goals as goal
 
 pub returns-then-state-ne-STATE_BYTES : goal.returns-then-state-ne-STATE_BYTES

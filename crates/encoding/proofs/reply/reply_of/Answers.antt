@@ -6,7 +6,6 @@ use Rattle.store.specs.declared.ChecksumRefresh.{ChecksumRefresh}
 use Rattle.store.specs.declared.Answer.TheVariants.{Size}
 use Rattle.encoding.specs.declared.reply.Reply.{Reply}
 use Rattle.encoding.specs.Called.{four, reply_of}
-use borrow.Author.Rules.{rules}
 use Rattle.encoding.proofs.reply.reply_of.Goals as goal
 
 abbrev refreshedBy : ℕ → ChecksumRefresh → Reply

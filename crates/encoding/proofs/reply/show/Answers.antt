@@ -1,6 +1,5 @@
 -- `show` meets its contract.
 use Rattle.encoding.specs.Called.{step_refused, step_stored}
-use borrow.Author.Rules.{rules}
 use Rattle.encoding.proofs.reply.show.Goals as goal
 
 pub returns-then-number-eq-BUFFER_TOO_SHORT : goal.returns-then-number-eq-BUFFER_TOO_SHORT

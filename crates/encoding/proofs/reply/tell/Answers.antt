@@ -4,7 +4,6 @@ use native.Mathlib.Omega.{arith}
 use lib.ListN.{length}
 use Rattle.encoding.specs.declared.reply.Reply.{Reply}
 use Rattle.encoding.specs.Called.{length-values, answer_refused, answer_stored}
-use borrow.Author.Rules.{rules}
 use Rattle.encoding.proofs.reply.tell.Goals as goal
 
 pub returns-then-reply-eq-BUFFER_TOO_SHORT : goal.returns-then-reply-eq-BUFFER_TOO_SHORT

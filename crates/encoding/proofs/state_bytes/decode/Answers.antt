@@ -9,7 +9,6 @@ use Rattle.words.specs.Words.{length-words_in}
 use Rattle.memory.specs.Growth.{stable}
 use Rattle.meta.specs.Block.{of_numbers}
 use Rattle.encoding.specs.StateBytes.{state_of, state_in, overlay_of}
-use borrow.Author.Rules.{rules}
 use Rattle.encoding.proofs.state_bytes.decode.Goals as goal
 
 pub returns : goal.returns

@@ -1,10 +1,7 @@
 -- `encode` meets its contract.
-use mathlib.Core.Path.{◌≡◌, ap, sym, ◌∙◌}
-use Prim.Native.Nat.{ℕ, ◌<◌}
+use mathlib.Core.Path.{ap, ◌∙◌}
 use native.Mathlib.Omega.{arith}
-use lib.ListN.{length}
-use Rattle.encoding.specs.StateBytes.{state_bytes, state_in, parts_wide, parts_bytes, state_round}
-use borrow.Author.Rules.{rules}
+use Rattle.encoding.specs.StateBytes.{state_in, parts_wide, parts_bytes, state_round}
 use Rattle.encoding.proofs.state_bytes.encode.Goals as goal
 
 pub returns : goal.returns

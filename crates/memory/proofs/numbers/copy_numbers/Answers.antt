@@ -1,11 +1,9 @@
 -- `memory::copy_numbers` meets its contract: before each turn the first `i` numbers are copied.
-use mathlib.Core.Path.{◌≡◌, refl, sym, ◌∙◌}
-use Prim.Native.Nat.{◌-◌, ◌≤◌}
+use mathlib.Core.Path.{refl, sym, ◌∙◌}
 use native.Mathlib.Omega.{arith}
-use lib.ListN.{length, take, length-set}
+use lib.ListN.{length-set}
 use lib.Seq.{take_all}
 use borrow.Author.Rules.{rules}
-use Rattle.memory.specs.Bytes.{overwrite}
 use Rattle.memory.specs.Laws.{overwrite_nil, overwrite_more}
 use Rattle.memory.proofs.numbers.copy_numbers.Goals as goal
 

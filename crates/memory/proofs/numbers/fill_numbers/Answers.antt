@@ -1,9 +1,8 @@
 -- `memory::fill_numbers` meets its contract, as `memory::fill` does.
-use mathlib.Core.Path.{◌≡◌, refl, ◌∙◌}
-use mathlib.Core.List.{◌++◌}
-use Prim.Native.Nat.{◌-◌, ◌≤◌, ◌<◌}
+use mathlib.Core.Path.{refl, ◌∙◌}
+use Prim.Native.Nat.{◌<◌}
 use native.Mathlib.Omega.{arith}
-use lib.ListN.{length, drop, replicate, length-set}
+use lib.ListN.{length, length-set}
 use borrow.Author.Fill.{fill_none, fill_more}
 use borrow.Author.Rules.{rules}
 use Rattle.memory.specs.Laws.{fill_end}

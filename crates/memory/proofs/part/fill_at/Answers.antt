@@ -2,7 +2,6 @@
 use mathlib.Core.Path.{◌≡◌, sym, ◌∙◌}
 use Prim.Native.Nat.{◌+◌, ◌-◌}
 use native.Mathlib.Omega.{arith}
-use borrow.Author.Rules.{rules}
 use Rattle.memory.specs.Laws.{overwrite_out, overwrite_few, part_filled}
 use Rattle.memory.proofs.part.fill_at.Goals as goal
 

@@ -3,7 +3,6 @@ use mathlib.Core.Path.{◌≡◌, ◌∙◌}
 use Prim.Native.Nat.{◌-◌}
 use native.Mathlib.Omega.{arith}
 use lib.ListN.{drop, length, length-drop}
-use borrow.Author.Rules.{rules}
 use Rattle.memory.specs.Bytes.{overwrite}
 use Rattle.memory.specs.Laws.{tail_is, overwrite_long, part_padded, length-overwrite}
 use Rattle.memory.proofs.part.read.Goals as goal

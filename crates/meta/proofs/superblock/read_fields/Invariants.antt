@@ -1,13 +1,8 @@
-use mathlib.Core.Path.{◌≡◌, refl, sym, ap, ◌∙◌}
+use mathlib.Core.Path.{◌≡◌}
 use Prim.Native.Nat.{ℕ, ◌-◌, ◌≤◌, ◌<◌}
-use native.Mathlib.Omega.{arith}
-use lib.ListN.{length, get_or, set, length-set}
-use lib.Seq.{ext_get_or, get_or-set_same, get_or-set_other}
-use borrow.Author.Rules.{rules}
-use borrow.Author.Count.{below_more}
-use Rattle.meta.specs.BlockLaws.{length-fields_in, fields_in-at}
+use lib.ListN.{length, get_or}
 use Rattle.words.specs.Words.{word_at}
-use Rattle.meta.specs.Block.{fields_in, field_offset, offset_is}
+use Rattle.meta.specs.Block.{field_offset}
 use Rattle.meta.proofs.superblock.read_fields.Given as goal
 
 abbrev pub invariant-loop-k : goal.invariant-loop-k

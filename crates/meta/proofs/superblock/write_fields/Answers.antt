@@ -1,14 +1,13 @@
 -- `meta::write_fields` meets its contract: before each turn the first `k` numbers are written.
-use mathlib.Core.Path.{◌≡◌, refl, sym, ◌∙◌}
-use Prim.Native.Nat.{◌-◌, ◌≤◌, ◌<◌}
+use mathlib.Core.Path.{refl, sym, ◌∙◌}
+use Prim.Native.Nat.{◌<◌}
 use native.Mathlib.Omega.{arith}
-use lib.ListN.{length, take}
+use lib.ListN.{length}
 use lib.Seq.{take_all}
 use borrow.Author.Rules.{rules}
 use Rattle.meta.specs.Block.{offset_is}
-use Rattle.memory.specs.Bytes.{overwrite}
 use Rattle.memory.specs.Laws.{overwrite_nil}
-use Rattle.words.specs.Words.{words, words_more}
+use Rattle.words.specs.Words.{words_more}
 use Rattle.meta.proofs.superblock.write_fields.Goals as goal
 
 pub loop-k-init : goal.loop-k-init

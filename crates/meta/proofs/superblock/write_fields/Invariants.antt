@@ -1,13 +1,8 @@
-use mathlib.Core.Path.{◌≡◌, refl, sym, ◌∙◌}
-use Prim.Native.Nat.{◌-◌, ◌≤◌, ◌<◌}
-use native.Mathlib.Omega.{arith}
+use mathlib.Core.Path.{◌≡◌}
+use Prim.Native.Nat.{◌-◌, ◌≤◌}
 use lib.ListN.{length, take}
-use lib.Seq.{take_all}
-use borrow.Author.Rules.{rules}
-use Rattle.meta.specs.Block.{offset_is}
 use Rattle.memory.specs.Bytes.{overwrite}
-use Rattle.memory.specs.Laws.{overwrite_nil}
-use Rattle.words.specs.Words.{words, words_more}
+use Rattle.words.specs.Words.{words}
 use Rattle.meta.proofs.superblock.write_fields.Given as goal
 
 abbrev pub invariant-loop-k : goal.invariant-loop-k

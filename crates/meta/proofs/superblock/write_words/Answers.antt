@@ -1,13 +1,10 @@
 -- `meta::write_words` meets its contract: before each turn the first `k` numbers are written.
-use mathlib.Core.Path.{◌≡◌, refl, sym, ◌∙◌}
-use Prim.Native.Nat.{◌-◌, ◌≤◌}
+use mathlib.Core.Path.{refl, sym, ◌∙◌}
 use native.Mathlib.Omega.{arith}
-use lib.ListN.{length, take}
 use lib.Seq.{take_all}
 use borrow.Author.Rules.{rules}
-use Rattle.memory.specs.Bytes.{overwrite}
 use Rattle.memory.specs.Laws.{overwrite_nil}
-use Rattle.words.specs.Words.{words, words_more}
+use Rattle.words.specs.Words.{words_more}
 use Rattle.meta.proofs.superblock.write_words.Goals as goal
 
 pub loop-k-init : goal.loop-k-init

@@ -10,7 +10,6 @@ use Rattle.store.specs.Calls.{out}
 use Rattle.store.specs.Store.{working}
 use Rattle.transfer.specs.StoreCases.{refused_as}
 use Rattle.opening.specs.BeginCases.{begin_importing, begin_again, begin_done}
-use borrow.Author.Rules.{rules}
 use Rattle.opening.proofs.beginning.begin_update.Goals as goal
 
 pub returns-then-is_importing : goal.returns-then-is_importing

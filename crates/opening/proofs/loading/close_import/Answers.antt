@@ -1,7 +1,6 @@
 use mathlib.Core.Path.{ap}
 use mathlib.Core.Bool.{not}
 use Rattle.opening.specs.OpeningCases.{close_none, close_done}
-use borrow.Author.Rules.{rules}
 use Rattle.opening.proofs.loading.close_import.Goals as goal
 
 pub returns-then-not-is_importing : goal.returns-then-not-is_importing

@@ -1,7 +1,6 @@
 use mathlib.Core.Path.{sym, ◌∙◌}
 use borrow.Author.Tests.{lt-ltb, le-ltb}
 use Rattle.lending.specs.FirstTests.{either_true, neither}
-use borrow.Author.Rules.{rules}
 use Rattle.opening.proofs.loading.import_is_outside.Goals as goal
 
 pub returns-then-b-lt-STABLE_PAGE_SIZE : goal.returns-then-b-lt-STABLE_PAGE_SIZE

@@ -1,10 +1,8 @@
 use mathlib.Core.Path.{sym, ap, ◌∙◌}
 use mathlib.Core.Bool.{Bool, ◌&&◌}
 use borrow.Author.Tests.{lt-ltb, le-ltb}
-use Rattle.transfer.specs.StoreCases.{not_true, not_false}
 use Rattle.lending.specs.FirstTests.{either_true, neither}
 use Rattle.opening.specs.Opened.{import_outside}
-use borrow.Author.Rules.{rules}
 use Rattle.opening.proofs.loading.is_outside.Goals as goal
 
 pub returns-then-b-lt-STABLE_PAGE_SIZE : goal.returns-then-b-lt-STABLE_PAGE_SIZE

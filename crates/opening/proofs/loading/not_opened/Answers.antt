@@ -5,7 +5,6 @@ use Rattle.store.specs.declared.Answer.TheVariants.{Refused}
 use Rattle.store.specs.Codec.{real_codec}
 use Rattle.store.specs.Store.{ended}
 use Rattle.transfer.specs.Steps.{step}
-use borrow.Author.Rules.{rules}
 use Rattle.opening.proofs.loading.not_opened.Goals as goal
 
 pub returns : goal.returns

@@ -1,5 +1,4 @@
 use Rattle.opening.specs.OpeningCases.{open_closed}
-use borrow.Author.Rules.{rules}
 use Rattle.opening.proofs.loading.open.Goals as goal
 
 pub returns : goal.returns

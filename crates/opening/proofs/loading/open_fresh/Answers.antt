@@ -1,5 +1,4 @@
 use Rattle.opening.specs.OpeningCases.{fresh_refused, fresh_grown}
-use borrow.Author.Rules.{rules}
 use Rattle.opening.proofs.loading.open_fresh.Goals as goal
 
 pub returns-in-Refused : goal.returns-in-Refused

@@ -7,10 +7,8 @@ use Rattle.store.specs.declared.State.{State}
 use Rattle.store.specs.declared.Step.{Step}
 use Rattle.store.specs.declared.Answer.TheVariants.{Done}
 use Rattle.transfer.specs.Steps.{step}
-use Rattle.transfer.specs.StoreCases.{not_true, not_false}
 use Rattle.opening.specs.Opened.{opened}
 use Rattle.opening.specs.OpeningCases.{open_short, open_fresh_lem, open_refused, open_outside, open_done}
-use borrow.Author.Rules.{rules}
 use Rattle.opening.proofs.loading.open_image.Goals as goal
 
 pub returns-then-not-is_lent : goal.returns-then-not-is_lent

@@ -4,7 +4,6 @@ use Rattle.update.specs.declared.Overlay.{Overlay}
 use Rattle.update.specs.Laid.{bufs, Fits, resized}
 use Rattle.update.specs.SettleLaws.{settle_fits}
 use Rattle.overlay.specs.CallLaws.{truncate_short, truncate_long}
-use borrow.Author.Rules.{rules}
 use Rattle.overlay.proofs.changing.truncate.Goals as goal
 
 pub returns-then-are_short : goal.returns-then-are_short

@@ -7,7 +7,6 @@ use Rattle.update.specs.Laid.{laid, bufs, Fits, wrote}
 use Rattle.update.specs.LeaveLaws.{told}
 use Rattle.update.specs.SettleLaws.{settle_fits}
 use Rattle.overlay.specs.CallLaws.{write_short, write_empty, write_over, write_done, write_refused}
-use borrow.Author.Rules.{rules}
 use Rattle.overlay.proofs.changing.write_at.Goals as goal
 
 pub returns-then-are_short : goal.returns-then-are_short

@@ -11,7 +11,6 @@ use Rattle.update.specs.Image.{image_in, image_page, image_part}
 use Rattle.update.specs.ImageLaws.{length-image_page, page_is}
 use Rattle.update.specs.Frames.{cache_out}
 use Rattle.pool.specs.CacheLaws.{room_count, room-length, laid_insert}
-use borrow.Author.Rules.{rules}
 use Rattle.pool.proofs.cache.insert.Goals as goal
 use Rattle.pool.proofs.cache.insert.Goals.{After-make_room-room}
 

@@ -14,7 +14,6 @@ use Rattle.update.specs.ImageLaws.{page_is}
 use Rattle.update.specs.Buffers.{cached}
 use Rattle.update.specs.Frames.{cache_out, load_out}
 use Rattle.pool.specs.CacheLaws.{settled_most, settled_cached, load_covered, load_hit, load_miss}
-use borrow.Author.Rules.{rules}
 use Rattle.pool.proofs.cache.load.Goals as goal
 use Rattle.pool.proofs.cache.load.Goals.{After-find-at, Start}
 

@@ -1,7 +1,6 @@
 -- `pool::cache::make_room` meets its contract.
 use borrow.Author.Tests.{lt-ltb, le-ltb}
 use Rattle.pool.specs.Cache.{room_made}
-use borrow.Author.Rules.{rules}
 use Rattle.pool.proofs.cache.make_room.Goals as goal
 
 pub returns-then-c-lt-CAPACITY : goal.returns-then-c-lt-CAPACITY

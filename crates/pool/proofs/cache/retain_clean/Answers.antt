@@ -9,7 +9,6 @@ use Rattle.update.specs.PageLaws.{length-pages_in}
 use Rattle.update.specs.Buffers.{cached}
 use Rattle.update.specs.Frames.{pool, relaid, retained}
 use Rattle.pool.specs.CacheLaws.{settled-length, settled_most, settled_count, settled_cached, laid_relaid, length_retained}
-use borrow.Author.Rules.{rules}
 use Rattle.pool.proofs.cache.retain_clean.Goals as goal
 
 pub retain-count-requires : goal.retain-count-requires

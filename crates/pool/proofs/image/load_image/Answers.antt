@@ -3,7 +3,6 @@ use mathlib.Core.Path.{◌≡◌, sym, ap, ◌∙◌}
 use Prim.Native.Nat.{◌/◌}
 use native.Mathlib.Omega.{arith}
 use lib.ListN.{length, length-take}
-use borrow.Author.Rules.{rules}
 use Rattle.runs.specs.Sets.{covers}
 use Rattle.image_runs.specs.Image.{image_runs}
 use Rattle.pool.specs.Stored.{part_covered, part_stored, stored_read}

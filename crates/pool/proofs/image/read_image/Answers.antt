@@ -2,7 +2,6 @@
 use mathlib.Core.Path.{◌≡◌, sym, ap, ◌∙◌}
 use Prim.Native.Nat.{◌/◌}
 use lib.ListN.{length}
-use borrow.Author.Rules.{rules}
 use Rattle.runs.specs.Sets.{covers}
 use Rattle.image_runs.specs.Image.{image_runs}
 use Rattle.pool.specs.Stored.{part_covered, part_stored}

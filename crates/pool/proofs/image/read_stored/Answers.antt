@@ -2,7 +2,6 @@
 use mathlib.Core.Path.{◌∙◌}
 use native.Mathlib.Omega.{arith}
 use lib.ListN.{length, length-take}
-use borrow.Author.Rules.{rules}
 use Rattle.pool.specs.Stored.{stored_read}
 use Rattle.pool.proofs.image.read_stored.Goals as goal
 

@@ -1,10 +1,7 @@
 -- `pool::find` meets its contract: as long as no block had the page, its place is `i` and the place among the numbers from there on.
-use mathlib.Core.Path.{◌≡◌, sym, ◌∙◌}
-use Prim.Native.Nat.{◌+◌, ◌-◌, ◌≤◌, ◌<◌, min}
+use mathlib.Core.Path.{sym, ◌∙◌}
+use Prim.Native.Nat.{◌-◌}
 use native.Mathlib.Omega.{arith}
-use lib.ListN.{length, take, drop}
-use borrow.Author.Rules.{rules}
-use Rattle.update.specs.Pages.{place_of}
 use Rattle.pool.specs.PoolLaws.{block_missed}
 use Rattle.pool.proofs.pages.find.Goals as goal
 

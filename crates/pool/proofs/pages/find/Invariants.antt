@@ -1,10 +1,7 @@
-use mathlib.Core.Path.{◌≡◌, sym, ◌∙◌}
-use Prim.Native.Nat.{◌+◌, ◌-◌, ◌≤◌, ◌<◌, min}
-use native.Mathlib.Omega.{arith}
+use mathlib.Core.Path.{◌≡◌}
+use Prim.Native.Nat.{◌+◌, ◌-◌, ◌≤◌, min}
 use lib.ListN.{length, take, drop}
-use borrow.Author.Rules.{rules}
 use Rattle.update.specs.Pages.{place_of}
-use Rattle.pool.specs.PoolLaws.{block_missed}
 use Rattle.pool.proofs.pages.find.Given as goal
 
 abbrev pub invariant-loop-i : goal.invariant-loop-i

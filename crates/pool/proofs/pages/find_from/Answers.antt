@@ -1,10 +1,9 @@
 -- `pool::find_from` meets its contract: the place is `i` and the place among the numbers from there on.
 use mathlib.Core.Path.{◌≡◌}
-use Prim.Native.Nat.{◌+◌, ◌-◌, ◌≤◌, ◌<◌, min}
+use Prim.Native.Nat.{◌-◌, ◌<◌, min}
 use native.Mathlib.Omega.{arith}
-use lib.ListN.{length, take, drop}
+use lib.ListN.{length}
 use borrow.Author.Rules.{rules}
-use Rattle.update.specs.Pages.{place_of}
 use Rattle.pool.specs.PoolLaws.{place_hit, place_miss, place_end}
 use Rattle.pool.proofs.pages.find_from.Goals as goal
 

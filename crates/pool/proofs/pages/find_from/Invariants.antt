@@ -1,10 +1,7 @@
 use mathlib.Core.Path.{◌≡◌}
-use Prim.Native.Nat.{◌+◌, ◌-◌, ◌≤◌, ◌<◌, min}
-use native.Mathlib.Omega.{arith}
-use lib.ListN.{length, take, drop}
-use borrow.Author.Rules.{rules}
+use Prim.Native.Nat.{◌+◌, ◌-◌, ◌≤◌}
+use lib.ListN.{take, drop}
 use Rattle.update.specs.Pages.{place_of}
-use Rattle.pool.specs.PoolLaws.{place_hit, place_miss, place_end}
 use Rattle.pool.proofs.pages.find_from.Given as goal
 
 abbrev pub invariant-loop-i : goal.invariant-loop-i

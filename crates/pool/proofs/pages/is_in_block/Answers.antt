@@ -1,11 +1,8 @@
 -- `pool::is_in_block` meets its contract: the page was found where it is among the block's numbers before `k`.
 use mathlib.Core.Path.{◌≡◌, refl, ◌∙◌}
-use Prim.Native.Nat.{◌+◌, ◌-◌, ◌≤◌, ◌<◌, min}
+use Prim.Native.Nat.{◌-◌}
 use native.Mathlib.Nat.{sub_self}
 use native.Mathlib.Omega.{arith}
-use lib.ListN.{length, take, drop}
-use borrow.Author.Rules.{rules}
-use Rattle.pool.specs.Pool.{among}
 use Rattle.pool.specs.PoolLaws.{block_more}
 use Rattle.pool.proofs.pages.is_in_block.Goals as goal
 

@@ -1,10 +1,8 @@
 -- `pool::move_down` meets its contract: before each turn the first `k` bytes have moved.
 use mathlib.Core.Path.{◌≡◌, sym}
-use Prim.Native.Nat.{◌-◌, ◌≤◌}
+use Prim.Native.Nat.{◌-◌}
 use native.Mathlib.Omega.{arith}
-use lib.ListN.{length, take, drop}
 use borrow.Author.Rules.{rules}
-use Rattle.memory.specs.Bytes.{overwrite}
 use Rattle.memory.specs.Laws.{overwrite_nil}
 use Rattle.pool.specs.PoolLaws.{move_more}
 use Rattle.pool.proofs.pages.move_down.Goals as goal

@@ -1,11 +1,7 @@
-use mathlib.Core.Path.{◌≡◌, sym}
+use mathlib.Core.Path.{◌≡◌}
 use Prim.Native.Nat.{◌-◌, ◌≤◌}
-use native.Mathlib.Omega.{arith}
 use lib.ListN.{length, take, drop}
-use borrow.Author.Rules.{rules}
 use Rattle.memory.specs.Bytes.{overwrite}
-use Rattle.memory.specs.Laws.{overwrite_nil}
-use Rattle.pool.specs.PoolLaws.{move_more}
 use Rattle.pool.proofs.pages.move_down.Given as goal
 
 abbrev pub invariant-loop-k : goal.invariant-loop-k

@@ -3,7 +3,6 @@ use mathlib.Core.Path.{◌≡◌, ◌∙◌}
 use Prim.Native.Nat.{◌-◌, ◌*◌, ◌≤◌}
 use native.Mathlib.Omega.{arith}
 use borrow.Rule.Slice.PartMut.{put_mid}
-use borrow.Author.Rules.{rules}
 use Rattle.memory.specs.Bytes.{zeros, overwrite}
 use Rattle.memory.specs.Laws.{part_filled}
 use Rattle.update.specs.Frames.{pool}

@@ -1,11 +1,9 @@
 -- `pool::retain_front` meets its contract: the walk of the rest, from what there is, is the walk of all.
 use mathlib.Core.Path.{◌≡◌, sym, ◌∙◌}
-use Prim.Native.Nat.{◌-◌, ◌≤◌}
+use Prim.Native.Nat.{◌-◌}
 use native.Mathlib.Omega.{arith}
-use lib.ListN.{length}
 use borrow.Author.Rules.{rules}
 use Rattle.update.specs.Frames.{pool}
-use Rattle.pool.specs.Pool.{walked}
 use Rattle.pool.specs.PoolLaws.{kept_count, walk_step, walk_end}
 use Rattle.pool.proofs.pages.retain_front.Goals as goal
 

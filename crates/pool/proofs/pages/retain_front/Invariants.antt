@@ -1,11 +1,7 @@
-use mathlib.Core.Path.{◌≡◌, sym, ◌∙◌}
+use mathlib.Core.Path.{◌≡◌}
 use Prim.Native.Nat.{◌-◌, ◌≤◌}
-use native.Mathlib.Omega.{arith}
 use lib.ListN.{length}
-use borrow.Author.Rules.{rules}
-use Rattle.update.specs.Frames.{pool}
 use Rattle.pool.specs.Pool.{walked}
-use Rattle.pool.specs.PoolLaws.{kept_count, walk_step, walk_end}
 use Rattle.pool.proofs.pages.retain_front.Given as goal
 
 abbrev pub invariant-loop-i : goal.invariant-loop-i

@@ -1,13 +1,10 @@
 -- `pool::retain_one` meets its contract: a page that is in its place is not moved.
-use mathlib.Core.Path.{◌≡◌, sym, ap, ◌∙◌}
-use mathlib.Core.Logic.{⊎_elim}
+use mathlib.Core.Path.{◌≡◌, sym, ◌∙◌}
 use mathlib.Core.Bool.{true}
 use native.Mathlib.Omega.{arith}
-use lib.ListN.{get_or, length, length-set}
-use borrow.Author.Tests.{not-true, not-false}
+use lib.ListN.{get_or}
 use Rattle.pool.specs.Pool.{stays}
 use Rattle.pool.specs.PoolLaws.{kept_gone, kept_moved, kept_there}
-use borrow.Author.Rules.{rules}
 use Rattle.pool.proofs.pages.retain_one.Goals as goal
 use Rattle.pool.proofs.pages.retain_one.Goals.{then-to-i, else-to-i}
 

@@ -4,7 +4,6 @@ use Prim.Native.Nat.{◌*◌}
 use native.Mathlib.Omega.{arith}
 use lib.ListN.{length-set}
 use Rattle.pool.specs.PoolLaws.{set_two, push_none, push_full, push_room}
-use borrow.Author.Rules.{rules}
 use Rattle.pool.proofs.record.push_run.Goals as goal
 
 pub returns-then-end-start : goal.returns-then-end-start

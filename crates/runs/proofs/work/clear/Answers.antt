@@ -1,8 +1,6 @@
 -- What stands before k, with zeros behind it to the end, is what stood before `from`, with zeros behind it.
-use Prim.Native.Nat.{◌-◌}
-use mathlib.Core.Path.{◌≡◌, sym, ◌∙◌}
-use lib.ListN.{length, take}
-use Rattle.runs.specs.Flat.{padded}
+use mathlib.Core.Path.{sym, ◌∙◌}
+use lib.ListN.{length}
 use Rattle.runs.specs.FlatLaws.{clear_step, clear_last}
 use borrow.Author.Rules.{rules}
 use Rattle.runs.proofs.work.clear.Goals as goal

@@ -1,9 +1,7 @@
 use Prim.Native.Nat.{◌-◌}
-use mathlib.Core.Path.{◌≡◌, sym, ◌∙◌}
+use mathlib.Core.Path.{◌≡◌}
 use lib.ListN.{length, take}
 use Rattle.runs.specs.Flat.{padded}
-use Rattle.runs.specs.FlatLaws.{clear_step, clear_last}
-use borrow.Author.Rules.{rules}
 use Rattle.runs.proofs.work.clear.Given as goal
 
 abbrev pub invariant-loop-k : goal.invariant-loop-k

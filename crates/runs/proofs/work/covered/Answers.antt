@@ -1,10 +1,6 @@
 -- What is left to search has the page exactly if the first `count` runs have it: a law for a run that has it not, one for a run that has it, one for the end.
-use Prim.Native.Nat.{◌-◌}
-use mathlib.Core.Path.{◌≡◌, sym, ◌∙◌}
-use Rattle.runs.specs.Sets.{covers}
-use Rattle.runs.specs.Flat.{runs_in, upto}
+use mathlib.Core.Path.{sym, ◌∙◌}
 use Rattle.runs.specs.FlatLaws.{upto_most, seek_hit, seek_miss, seek_last}
-use borrow.Author.Rules.{rules}
 use Rattle.runs.proofs.work.covered.Goals as goal
 
 pub loop-i-init : goal.loop-i-init

@@ -1,9 +1,7 @@
 use Prim.Native.Nat.{◌-◌}
-use mathlib.Core.Path.{◌≡◌, sym, ◌∙◌}
+use mathlib.Core.Path.{◌≡◌}
 use Rattle.runs.specs.Sets.{covers}
 use Rattle.runs.specs.Flat.{runs_in, upto}
-use Rattle.runs.specs.FlatLaws.{upto_most, seek_hit, seek_miss, seek_last}
-use borrow.Author.Rules.{rules}
 use Rattle.runs.proofs.work.covered.Given as goal
 
 abbrev pub invariant-loop-i : goal.invariant-loop-i

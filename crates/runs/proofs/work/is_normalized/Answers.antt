@@ -1,11 +1,8 @@
 -- What is left to look at is normalized exactly if the first `count` runs are: a law for each way in which a turn ends.
-use Prim.Native.Nat.{ℕ, ◌+◌, ◌-◌, ◌<◌}
+use Prim.Native.Nat.{ℕ, ◌+◌, ◌<◌}
 use mathlib.Core.Path.{◌≡◌, sym, ◌∙◌}
 use native.Mathlib.Omega.{arith}
-use Rattle.meta.specs.Runs.{normalized}
-use Rattle.runs.specs.Flat.{runs_in, upto}
 use Rattle.runs.specs.FlatLaws.{upto_most, tidy_last, tidy_empty, tidy_one, tidy_near, tidy_step}
-use borrow.Author.Rules.{rules}
 use Rattle.runs.proofs.work.is_normalized.Goals as goal
 
 -- run i is not the last

@@ -3,7 +3,6 @@ use Rattle.meta.specs.Stored.{Outcome}
 use Rattle.store.specs.declared.State.{State}
 use Rattle.store.specs.Store.{onward}
 use Rattle.transfer.specs.Steps.{step_out, step}
-use borrow.Author.Rules.{rules}
 use Rattle.transfer.proofs.step.restore.Goals as goal
 
 pub returns : goal.returns

@@ -1,5 +1,5 @@
 -- `transfer::refresh_step` meets its contract: progress of an older transaction is cleared once, and then there is none.
-use Rattle.std.proofs.Common.{◌≡◌, ℕ, ◌<◌, sym, ap, ◌∙◌, arith}
+use Rattle.std.proofs.Common.{◌≡◌, ◌<◌, sym, ap, ◌∙◌, arith}
 use Rattle.meta.specs.declared.superblock.Superblock.{Superblock}
 use Rattle.transfer.specs.Steps.{refresh_step_to}
 use Rattle.transfer.specs.RefreshLaws.{pending, pending_one, pending_none, step_fresh, step_onward, step_anew}

@@ -6,7 +6,6 @@ use Rattle.transfer.specs.StoreCases.{refused_as, too_short_lem, is_lent, short_
 use Prim.Native.Nat.{ℕ}
 use Rattle.store.specs.declared.Answer.TheVariants.{Checksum}
 use Rattle.transfer.specs.OnMemory.{lent}
-use borrow.Author.Rules.{rules}
 use mathlib.Core.Bool.{not}
 use Rattle.transfer.proofs.sums.checksum.Goals as goal
 

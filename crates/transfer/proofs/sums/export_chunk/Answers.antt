@@ -16,7 +16,6 @@ use Rattle.update.specs.ListLaws.{length-tabulate_from}
 use Rattle.update.specs.Image.{image_in}
 use Rattle.store.specs.declared.Answer.TheVariants.{Exported}
 use Rattle.transfer.specs.OnMemory.{lent}
-use borrow.Author.Rules.{rules}
 use mathlib.Core.Bool.{not}
 use Rattle.transfer.proofs.sums.export_chunk.Goals as goal
 

@@ -6,7 +6,6 @@ use Rattle.transfer.specs.StoreCases.{refused_as, answered_as, too_short_lem, is
 use Rattle.meta.specs.declared.superblock.Superblock.{Superblock}
 use Rattle.store.specs.declared.Answer.TheVariants.{Checksum}
 use Rattle.transfer.specs.Steps.{restore_to}
-use borrow.Author.Rules.{rules}
 use mathlib.Core.Bool.{not}
 use Rattle.transfer.proofs.sums.refresh_checksum.Goals as goal
 

@@ -3,7 +3,6 @@ use mathlib.Core.List.{[]}
 use Rattle.config.specs.declared.refusal.Refusal.TheVariants.{BufferTooShort, UpdateInProgress, ChecksumRefreshChunkEmpty, ImportAlreadyStarted}
 use Rattle.store.specs.Calls.{refresh_step}
 use Rattle.transfer.specs.StoreCases.{refused_as, answered_as, too_short_lem, is_lent, short_refused, updating_refused, idle_acts, step_empty, step_importing, step_done}
-use borrow.Author.Rules.{rules}
 use mathlib.Core.Path.{ap}
 use mathlib.Core.Bool.{not}
 use Rattle.transfer.proofs.sums.refresh_checksum_chunk.Goals as goal

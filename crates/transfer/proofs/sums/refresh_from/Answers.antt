@@ -10,7 +10,6 @@ use Rattle.update.specs.Image.{image_in}
 use Rattle.store.specs.declared.Answer.TheVariants.{Refreshed}
 use Rattle.transfer.specs.Steps.{restore_to}
 use Rattle.transfer.specs.RefreshLaws.{refresh_full, refresh_part}
-use borrow.Author.Rules.{rules}
 use Rattle.transfer.proofs.sums.refresh_from.Goals as goal
 
 pub returns-then-end-size : goal.returns-then-end-size

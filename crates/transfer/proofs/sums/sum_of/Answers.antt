@@ -7,7 +7,6 @@ use Rattle.update.specs.declared.Image.{Image}
 use Rattle.update.specs.Lists.{tabulate_from}
 use Rattle.update.specs.Image.{image_in}
 use Rattle.transfer.specs.StoreCases.{sum_is}
-use borrow.Author.Rules.{rules}
 use Rattle.transfer.proofs.sums.sum_of.Goals as goal
 
 pub returns : goal.returns

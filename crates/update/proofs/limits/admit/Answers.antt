@@ -1,6 +1,5 @@
 use borrow.Author.Tests.{le-leb, lt-leb, eq-eqb, ne_eqb}
 use Rattle.update.specs.Admit.{admitted, with_mark}
-use borrow.Author.Rules.{rules}
 use Rattle.update.proofs.limits.admit.Goals as goal
 
 pub returns-then-passed-ne0 : goal.returns-then-passed-ne0

@@ -1,6 +1,5 @@
 use native.Mathlib.Omega.{arith}
 use Rattle.update.specs.Update.{budget_bytes}
-use borrow.Author.Rules.{rules}
 use Rattle.update.proofs.limits.bytes.Goals as goal
 
 pub returns-then-pages : goal.returns-then-pages

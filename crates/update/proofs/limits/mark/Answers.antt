@@ -1,6 +1,5 @@
 use borrow.Author.Tests.{lt-ltb, le-ltb, eq-eqb, ne_eqb, not-true, not-false}
 use Rattle.update.specs.Update.{passing}
-use borrow.Author.Rules.{rules}
 use Rattle.update.proofs.limits.mark.Goals as goal
 
 pub returns-then-not-budget : goal.returns-then-not-budget

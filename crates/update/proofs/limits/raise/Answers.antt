@@ -1,7 +1,6 @@
 use mathlib.Core.Path.{sym}
 use Rattle.update.specs.Refusals.{raised_unlimited}
 use Rattle.update.specs.Update.{raised}
-use borrow.Author.Rules.{rules}
 use borrow.Author.Tests.{not-true, not-false}
 use Rattle.update.proofs.limits.raise.Goals as goal
 

@@ -3,7 +3,6 @@ use Rattle.store.specs.Calls.{refresh_step}
 use Rattle.transfer.specs.OnMemory.{lent}
 use Rattle.encoding.specs.Called.{call_done, call_short}
 use Rattle.yuharopu.specs.StoreCalls.{enough, is_long, is_short, lengths}
-use borrow.Author.Rules.{rules}
 use Rattle.yuharopu.proofs.transfer_calls.yuharopu_refresh_checksum_chunk.Goals as goal
 
 pub returns-then-are_short : goal.returns-then-are_short

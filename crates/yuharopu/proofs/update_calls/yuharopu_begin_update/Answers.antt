@@ -2,7 +2,6 @@
 use Rattle.store.specs.Calls.{begin}
 use Rattle.encoding.specs.Called.{call_done, call_short}
 use Rattle.yuharopu.specs.StoreCalls.{enough, is_long, is_short, lengths, is_set}
-use borrow.Author.Rules.{rules}
 use Rattle.yuharopu.proofs.update_calls.yuharopu_begin_update.Goals as goal
 
 pub returns-then-are_short : goal.returns-then-are_short

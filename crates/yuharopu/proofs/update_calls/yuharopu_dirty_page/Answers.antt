@@ -1,7 +1,6 @@
 -- `update_calls::yuharopu_dirty_page` meets its contract.
 use mathlib.Core.Path.{sym, ◌∙◌}
 use Rattle.yuharopu.specs.StoreCalls.{dirty_done, dirty_frames, dirty_short, enough, is_long, is_short, lengths}
-use borrow.Author.Rules.{rules}
 use Rattle.yuharopu.proofs.update_calls.yuharopu_dirty_page.Goals as goal
 
 pub returns-then-are_short : goal.returns-then-are_short

@@ -2,7 +2,6 @@
 use Rattle.store.specs.Calls.{file_size}
 use Rattle.encoding.specs.Called.{ask_done, ask_short}
 use Rattle.yuharopu.specs.StoreCalls.{enough, is_long, is_short, lengths}
-use borrow.Author.Rules.{rules}
 use Rattle.yuharopu.proofs.update_calls.yuharopu_file_size.Goals as goal
 
 pub returns-then-are_short : goal.returns-then-are_short

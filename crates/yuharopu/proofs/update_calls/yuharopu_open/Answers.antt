@@ -1,7 +1,6 @@
 -- `update_calls::yuharopu_open` meets its contract.
 use Rattle.encoding.specs.Called.{open_done, open_short}
 use Rattle.yuharopu.specs.StoreCalls.{is_long, is_short, lengths}
-use borrow.Author.Rules.{rules}
 use Rattle.yuharopu.proofs.update_calls.yuharopu_open.Goals as goal
 
 pub returns-then-are_short : goal.returns-then-are_short

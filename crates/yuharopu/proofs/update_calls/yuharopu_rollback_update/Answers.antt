@@ -4,7 +4,6 @@ use Rattle.store.specs.Calls.{rollback}
 use Rattle.transfer.specs.OnMemory.{lent}
 use Rattle.encoding.specs.Called.{call_done, call_short}
 use Rattle.yuharopu.specs.StoreCalls.{enough, is_long, is_short, lengths}
-use borrow.Author.Rules.{rules}
 use Rattle.yuharopu.proofs.update_calls.yuharopu_rollback_update.Goals as goal
 
 pub returns-then-are_short : goal.returns-then-are_short

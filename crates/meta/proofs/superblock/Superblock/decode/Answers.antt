@@ -3,7 +3,6 @@ use mathlib.Core.Path.{◌≡◌}
 use Prim.Native.Nat.{◌%◌, ◌/◌}
 use native.Mathlib.Omega.{arith}
 use lib.ListN.{drop}
-use borrow.Author.Rules.{rules}
 use Rattle.words.specs.Words.{de, Bytes, de_halves}
 use Rattle.meta.specs.Block.{of_fields, decode as decoded}
 use Rattle.meta.proofs.superblock.Superblock.decode.Goals as goal

@@ -4,7 +4,6 @@ use mathlib.Core.Path.{◌≡◌, ap, ◌∙◌}
 use Prim.Native.Nat.{ℕ}
 use native.Mathlib.Omega.{arith}
 use lib.ListN.{length, length-take}
-use borrow.Author.Rules.{rules}
 use Rattle.words.specs.Words.{words}
 use Rattle.meta.specs.Block.{header_of, header, block_bytes}
 use Rattle.memory.specs.Bytes.{overwrite}

@@ -1,7 +1,6 @@
 -- `meta::Superblock::encoded_len` meets its contract.
 use mathlib.Core.Path.{ap}
 use Prim.Native.Nat.{ℕ, ◌+◌, ◌*◌}
-use borrow.Author.Rules.{rules}
 use Rattle.meta.specs.Block.{encoded_len}
 use Rattle.meta.proofs.superblock.Superblock.encoded_len.Goals as goal
 

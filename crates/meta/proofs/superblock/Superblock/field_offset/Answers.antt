@@ -1,6 +1,5 @@
 -- `meta::Superblock::field_offset` meets its contract: the formula.
 use mathlib.Core.Path.{refl}
-use borrow.Author.Rules.{rules}
 use Rattle.meta.specs.Block.{field_offset}
 use Rattle.meta.proofs.superblock.Superblock.field_offset.Goals as goal
 

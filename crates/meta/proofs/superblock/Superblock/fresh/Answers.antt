@@ -1,6 +1,5 @@
 -- `meta::Superblock::fresh` meets its contract.
 use mathlib.Core.Path.{refl, ap}
-use borrow.Author.Rules.{rules}
 use Rattle.memory.specs.Bytes.{zeros}
 use Rattle.meta.specs.Block.{fresh as freshBlock}
 use Rattle.meta.specs.Stored.{Outcome}

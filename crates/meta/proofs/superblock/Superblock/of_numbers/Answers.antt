@@ -1,6 +1,5 @@
 -- `meta::Superblock::of_numbers` meets its contract: field k is number k + 3.
 use lib.Seq.{get_or-drop}
-use borrow.Author.Rules.{rules}
 use Rattle.meta.proofs.superblock.Superblock.of_numbers.Goals as goal
 
 pub returns : goal.returns

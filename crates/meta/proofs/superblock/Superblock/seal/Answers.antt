@@ -4,7 +4,6 @@ use mathlib.Core.List.{List, []}
 use Prim.Native.Nat.{ℕ, ◌≤◌}
 use native.Mathlib.Omega.{arith}
 use lib.ListN.{length, take, length-take}
-use borrow.Author.Rules.{rules}
 use Rattle.memory.specs.Laws.{length-zeros}
 use Rattle.meta.specs.declared.superblock.Superblock.{Superblock}
 use Rattle.fnv.specs.Fnv.{fnv1a64 as hashed}

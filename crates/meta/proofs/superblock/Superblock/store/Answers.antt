@@ -4,7 +4,6 @@ use mathlib.Core.List.{[]}
 use Prim.Native.Nat.{◌≤◌}
 use native.Mathlib.Omega.{arith}
 use lib.ListN.{length, take, length-take}
-use borrow.Author.Rules.{rules}
 use Rattle.memory.specs.Bytes.{zeros, overwrite}
 use Rattle.meta.specs.Block.{encoded_len, prefix, store_in, encode as encoded, seal as sealed}
 use Rattle.meta.specs.BlockLaws.{length-encode, encoded_len-hi}
