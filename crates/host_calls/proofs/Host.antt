@@ -26,7 +26,9 @@ use Rattle.host_calls.specs.Made.{Made, AllByC}
 use Rattle.host_calls.specs.CCalls.{CCall, made_all, COpened, state_passed, memory_passed, count_passed, answer_passed, state_left, memory_left, answer_left}
 use Rattle.host_calls.proofs.CCallLaws.{all_by_c, open_by_c, open_typed}
 use Rattle.host_calls.specs.HostClaim.{Untouched, too_little, plain_after, HostPromise}
-use Rattle.host_calls.proofs.Seen.{Seen, seen, untouched_short, untouched_35, owed_seen, enough_seen}
+use Rattle.host_calls.proofs.Seen.{seen, untouched_short, untouched_35, owed_seen, enough_seen}
+use Rattle.host_calls.specs.Seen.{Seen}
+use Rattle.host_calls.specs.Host.{Back, Opens, HostOpens}
 
 -- a call whose answer has no room does what a question for the size does: nothing
 abbrev turn_of : Bool → Made → Turn'
@@ -60,12 +62,6 @@ module _ (s : State) (p : Plain) (m : List ℕ) (w l : Lent) (lends : Lends' s w
   asked : Promise' s p m w (record { lent = l; call = file_size } ∷ ts) → Begun p m → Promise' s p m (leaves' l w) ts
   unfolding store short
   asked g b = subst (λ (x : List ℕ). Promise' s p x (leaves' l w) ts) (begun_same p m _ b) (g lends tt).2
-
--- what a call gives back, to those that follow
-pub record Back : Type 0 where
-  pub number : ℕ
-  pub state : State
-  pub lent : Lent
 
 abbrev after : Plain → Call → Lent → Back → Plain
 after p c l y = plain_step' p c (record { number = y.number; length = length l.mem; after = y.lent.mem })
@@ -117,12 +113,6 @@ keeps st p m w n b (e ∷ es) h g = λ same lends.
     ))))
 
 -- ## Opening
-
-pub record Opens (st' m' : List ℕ) (x : Opened) : Type 0 where
-  pub accepted : number x.answer ≡ 0
-  pub state : state_in st' ≡ x.state
-  pub long : length st' ≡ 336
-  pub mem : m' ≡ x.mem
 
 module _ (st an m : List ℕ) (n r : ℕ) (st' m' an' : List ℕ) (h : open_called r st' m' an' ≡ open_at st an m n) where
   abbrev image : Opened
@@ -197,12 +187,6 @@ pub host_demand3 : (o : COpened) → o.gave ≡ 0 → Bytes (memory_passed o) �
 host_demand3 o ok bytes b w cs =
     host_list (state_passed o) (answer_passed o) (memory_passed o) (count_passed o) o.gave (state_left o) (memory_left o) (answer_left o)
     (open_by_c o) ok bytes (open_typed o) b w (made_all cs) (all_by_c cs)
-
--- THE OPENING FOR A HOST (02, W-202): `yuharopu_open` returned 0. No import is open in the state that it left, and an image that was there is the plain file
--- that it was, also if its import was closed
-pub record HostOpens (o : COpened) : Type 0 where
-  pub none_open : importing (state_in (state_left o)).block ≡ false
-  pub same_file : Bytes (memory_passed o) → (count_passed o ≡ 0 → ⊥) → plain_of (memory_left o) ≡ plain_of (memory_passed o)
 
 pub host_opens : (o : COpened) → o.gave ≡ 0 → HostOpens o
 host_opens o ok =

@@ -21,6 +21,7 @@ use Rattle.plain_file.specs.Sizes.{short', buffers_short', Owed', Enough'}
 use Rattle.plain_file.specs.Plain.{Plain, closed, drafting}
 use Rattle.host_calls.specs.Made.{Made, looks, promised, gives, ByC}
 use Rattle.host_calls.specs.HostClaim.{Untouched, Tells, HostReads, live, HostOwed, HostEnough}
+use Rattle.host_calls.specs.Seen.{Seen, right}
 
 -- ## Calls that look leave the state
 
@@ -55,14 +56,6 @@ module _ (s : State) (l : Lent) where
   stays c e = by_test Stays (short' s l c) _ _ (λ t. refl) (λ f. looks_stay c e)
 
 -- ## A call by its cases
-
-pub record Seen (e : Made) (x : Out) : Type 0 where
-  pub returned : e.returned ≡ number x.answer
-  pub answer : e.answer' ≡ overwrite 0 (values x.answer) e.answer
-  pub state : state_in e.state' ≡ x.state
-  pub long : length e.state' ≡ 336
-  pub lent : e.lent' ≡ x.lent
-  pub filled : e.filled ≡ x.filled
 
 module _ (st an : List ℕ) (l : Lent) (c : Call) where
   abbrev x : Out
@@ -222,12 +215,6 @@ module _ (e : Made) (x : Out) (is : Seen e x) where
   owed_seen (drafting f d) m (refresh_step n) w h = tt
 
 -- ## The equations can be met
-
--- the call as promised; its equation holds where the bytes that are left hold the state, as those of every state in a program do (`state_round`)
-abbrev pub right : List ℕ → List ℕ → Lent → Call → Made
-right st an l c =
-    let y : Called = promised st an l c in
-    record { state = st; answer = an; lent = l; call = c; returned = y.number; state' = y.state; answer' = y.answer; lent' = y.lent; filled = y.filled }
 
 module _ (st an : List ℕ) (l : Lent) (c : Call) (held : state_in (state_bytes (out_of (state_in st) l c).state) ≡ (out_of (state_in st) l c).state) where
   abbrev Held : Called → Type 0

@@ -38,7 +38,8 @@ use Rattle.store.specs.Plan.{required}
 use Rattle.store.proofs.PlanLaws.{store_plan_lem}
 use Rattle.store.specs.Store.{runs_of, image, over, publish, settle, unchanged, planned_runs, commit_over}
 use Rattle.store.specs.Lawful.{Lawful, Good}
-use Rattle.store.proofs.MemoryLaws.{Reaches, grow_cases}
+use Rattle.store.proofs.MemoryLaws.{grow_cases}
+use Rattle.store.specs.Facts.{Reaches}
 use Rattle.store.proofs.CommitLaws.{new_block, flushed, after, commit_good, commit_byte, after_size, after_base, after_count, after_runs}
 use Rattle.plain_file.specs.Plain.{File, Draft, Verdict, fine, runs31, range20, ceiling32, verdict_number, farthest, judge, ground, file_ground, taken, file_of}
 use Rattle.plain_file.specs.Invariant.{Draws}

@@ -36,12 +36,15 @@ use Rattle.store.specs.declared.Answer.{Answer}
 use Rattle.store.specs.declared.Answer.TheVariants.{Done, Size, Read, Checksum, Refused}
 use Rattle.store.specs.Codec.{Codec, sealed, stored}
 use Rattle.store.specs.Blocks.{importing, refreshing, after_import_begin, after_import_chunk, after_import_cancel, after_import_finish, after_refresh, after_refresh_step}
-use Rattle.store.proofs.BlockLaws.{Keeps, KeepsImport, ImportBegins, after_begin, begin_keeps, ChunkKeeps, after_chunk, Finishes, after_finish, refresh_keeps, refresh_imports, step_keeps, step_imports, seal_importing}
+use Rattle.store.proofs.BlockLaws.{after_begin, begin_keeps, after_chunk, after_finish, refresh_keeps, refresh_imports, step_keeps, step_imports, seal_importing}
+use Rattle.store.specs.Blocks.{Keeps, KeepsImport, ImportBegins, ChunkKeeps, Finishes}
 use Rattle.store.specs.Calls.{Call, begin, read, write, truncate, commit, rollback, file_size, import_begin, import_chunk, import_finish, import_cancel, export, checksum, refresh, refresh_step, Lent, Out, out, number, uses, Mode, idle, update, mode_of, short, cleared, with_mem}
 use Rattle.store.specs.Store.{resting, working, onward, budget_of, image, image_bytes, image_sum, over, commit_over, direct, do_begin, restore, do_import_begin, place_chunk, do_import_chunk, do_import_finish, do_import_cancel, do_export, do_checksum, do_refresh, progress, refresh_from, do_refresh_step, act, swept}
 use Rattle.store.specs.Lawful.{Fits, Lawful, Good}
-use Rattle.store.proofs.MemoryLaws.{Reaches, grow_cases, stored-length}
-use Rattle.store.proofs.RestoreLaws.{Carries, cancel_carries, restore_good}
+use Rattle.store.proofs.MemoryLaws.{grow_cases, stored-length}
+use Rattle.store.specs.Facts.{Reaches}
+use Rattle.store.proofs.RestoreLaws.{cancel_carries, restore_good}
+use Rattle.store.specs.Facts.{Carries}
 use Rattle.plain_file.specs.Plain.{File, Draft, Plain, closed, drafting, copied, draft_write, draft_truncate, verdict_number, file_ground, file_of, changed}
 use Rattle.plain_file.specs.Claim.{Reads, Direct, Lends, leaves, at_begin, Word}
 use Rattle.plain_file.specs.Invariant.{Draws, Inv, good_near, file_near, inv_back}

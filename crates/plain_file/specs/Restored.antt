@@ -19,7 +19,8 @@ use Rattle.store.specs.Store.{runs_of}
 use Rattle.store.specs.Opening.{Opened, open_image, open'}
 use Rattle.store.specs.Lawful.{Fits, Lawful, Good}
 use Rattle.store.proofs.MemoryLaws.{stored_high}
-use Rattle.store.proofs.RestoreLaws.{Carries, cancel_carries, runs_carried, carried, stable_lent}
+use Rattle.store.proofs.RestoreLaws.{cancel_carries, runs_carried, carried, stable_lent}
+use Rattle.store.specs.Facts.{Carries}
 use Rattle.store.proofs.OpeningLaws.{Opens, image_mem, image_opens}
 use Rattle.store.proofs.ClosingLaws.{open_unmarked, open_answer, open_closes}
 use Rattle.plain_file.specs.Plain.{File, file_of}

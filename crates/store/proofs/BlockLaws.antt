@@ -9,6 +9,7 @@ use borrow.Author.Tests.{eq-eqb, ne_eqb}
 use Rattle.meta.specs.declared.superblock.Superblock.{Superblock}
 use Rattle.meta.specs.Block.{sealed_by}
 use Rattle.store.specs.Blocks.{after_commit, after_import_begin, after_import_cancel, after_import_chunk, after_import_finish, after_refresh, after_refresh_step, bit, importing, marks, refreshing, set_flags, set_import, stale}
+use Rattle.store.specs.Blocks.{Keeps, KeepsImport, Commits, ImportBegins, ChunkKeeps, Cancels, Finishes}
 
 module _ (b : Superblock) (s r : Bool) (f : ℕ) where
   parity : (i : Bool) → marks i s r f % 2 ≡ bit i
@@ -55,34 +56,10 @@ pub same_importing : (a b : Superblock) → a.flags ≡ b.flags → importing a 
 unfolding importing
 same_importing a b e = ap (λ (f : ℕ). eqb (f % 2) 1) e
 
--- the database is where it was, and an open import is what it was
-pub record Keeps (b b' : Superblock) : Type 0 where
-  pub size : b'.db_size ≡ b.db_size
-  pub base : b'.db_base_offset ≡ b.db_base_offset
-  pub runs : b'.zero_extent_count ≡ b.zero_extent_count
-
-pub record KeepsImport (b b' : Superblock) : Type 0 where
-  pub mark : importing b' ≡ importing b
-  pub base : b'.import_base_offset ≡ b.import_base_offset
-  pub written : b'.import_written_until ≡ b.import_written_until
-  pub total : b'.import_total_size ≡ b.import_total_size
-
-pub record Commits (n runs : ℕ) (b b' : Superblock) : Type 0 where
-  pub size : b'.db_size ≡ n
-  pub base : b'.db_base_offset ≡ b.db_base_offset
-  pub count : b'.zero_extent_count ≡ runs
-  pub imports : KeepsImport b b'
-
 pub after_commit_lem : (P M : ℕ) (u : Bool) (n runs : ℕ) (b : Superblock) → Commits n runs b (after_commit P M u n runs b)
 unfolding after_commit
 after_commit_lem P M true n runs b = record { size = refl; base = refl; count = refl; imports = record { mark = marks_importing _ true false b.flags (importing b) refl; base = refl; written = refl; total = refl } }
 after_commit_lem P M false n runs b = record { size = refl; base = refl; count = refl; imports = record { mark = same_importing _ b refl; base = refl; written = refl; total = refl } }
-
-pub record ImportBegins (total base : ℕ) (b' : Superblock) : Type 0 where
-  pub mark : importing b' ≡ true
-  pub base_is : b'.import_base_offset ≡ base
-  pub written : b'.import_written_until ≡ 0
-  pub total_is : b'.import_total_size ≡ total
 
 pub after_begin : (total expected base : ℕ) (b : Superblock) → ImportBegins total base (after_import_begin total expected base b)
 unfolding after_import_begin
@@ -91,13 +68,6 @@ after_begin total expected base b = record { mark = marks_importing _ (stale b) 
 pub begin_keeps : (total expected base : ℕ) (b : Superblock) → Keeps b (after_import_begin total expected base b)
 unfolding after_import_begin
 begin_keeps total expected base b = record { size = refl; base = refl; runs = refl }
-
-pub record ChunkKeeps (written : ℕ) (b b' : Superblock) : Type 0 where
-  pub keeps : Keeps b b'
-  pub mark : importing b' ≡ importing b
-  pub base : b'.import_base_offset ≡ b.import_base_offset
-  pub written_is : b'.import_written_until ≡ written
-  pub total : b'.import_total_size ≡ b.import_total_size
 
 pub after_chunk : (written : ℕ) (b : Superblock) → ChunkKeeps written b (after_import_chunk written b)
 unfolding after_import_chunk
@@ -110,19 +80,6 @@ cancel_keeps b = record { size = refl; base = refl; runs = refl }
 pub after_cancel : (b : Superblock) → importing (after_import_cancel b) ≡ false
 unfolding after_import_cancel
 after_cancel b = marks_importing _ (stale b) (refreshing b) b.flags false refl
-
--- 02, W-202, "as `cancel_import` would": the mark goes and the four import fields become 0, nothing else of the block changes before it is sealed
-pub record Cancels (b b' : Superblock) : Type 0 where
-  pub mark : importing b' ≡ false
-  pub expected : b'.import_expected_checksum ≡ 0
-  pub written : b'.import_written_until ≡ 0
-  pub total : b'.import_total_size ≡ 0
-  pub base : b'.import_base_offset ≡ 0
-  pub stale_mark : stale b' ≡ stale b
-  pub refresh_mark : refreshing b' ≡ refreshing b
-  pub unknown_bits : b'.flags / 8 ≡ b.flags / 8
-  -- with flags and import as they were it is the block that it was
-  pub rest : set_flags b.flags (set_import b.import_expected_checksum b.import_written_until b.import_total_size b.import_base_offset b') ≡ b
 
 pub cancels : (b : Superblock) → Cancels b (after_import_cancel b)
 unfolding after_import_cancel
@@ -139,12 +96,6 @@ cancels b =
       unknown_bits = marks_unknown b' false (stale b) (refreshing b) b.flags refl;
       rest = refl;
     }
-
-pub record Finishes (b b' : Superblock) : Type 0 where
-  pub size : b'.db_size ≡ b.import_total_size
-  pub base : b'.db_base_offset ≡ b.import_base_offset
-  pub count : b'.zero_extent_count ≡ 0
-  pub mark : importing b' ≡ false
 
 pub after_finish : (P sum : ℕ) (b : Superblock) → Finishes b (after_import_finish P sum b)
 unfolding after_import_finish

@@ -36,12 +36,7 @@ use Rattle.store.proofs.MemoryLaws.{grow_cases}
 use Rattle.store.specs.Plan.{required}
 use Rattle.store.specs.Store.{budget_of, image, publish, settle, unchanged, planned_runs, commit_over, direct, change, do_begin, do_read, do_commit, do_rollback, restore, do_import_begin, place_chunk, do_import_chunk, do_import_finish, do_import_cancel, do_export, do_checksum, do_refresh, refresh_from, do_refresh_step, alone, act, swept, store}
 use Rattle.store.specs.Cases.{by_test, no_or}
-
-pub record SameLengths (l x : Buffers) : Type 0 where
-  pub frames : length x.frames ≡ length l.frames
-  pub numbers : length x.numbers ≡ length l.numbers
-  pub clean : length x.clean ≡ length l.clean
-  pub recs : length x.recs ≡ length l.recs
+use Rattle.store.specs.Facts.{SameLengths}
 
 same : (l : Buffers) → SameLengths l l
 same l = record { frames = refl; numbers = refl; clean = refl; recs = refl }

@@ -26,12 +26,7 @@ use Rattle.store.specs.Lawful.{Lawful, Good}
 use Rattle.store.proofs.MemoryLaws.{stored_long}
 use Rattle.store.proofs.OpeningLaws.{Opens, image_cases, image_count_lem, image_opens}
 use Rattle.store.proofs.RestoreLaws.{cancel_carries, restore_good}
-
--- no update is open, and memory holds the count
-pub record Accepts (S : ℕ) (x : Opened) : Type 0 where
-  pub done : x.answer ≡ Done
-  pub idle : x.state.updating ≡ false
-  pub held : x.state.count.0 * S ≤ length x.mem
+use Rattle.store.specs.Facts.{Accepts}
 
 module _ (P S C L M : ℕ) (k : Codec) where
   -- ## The cancel

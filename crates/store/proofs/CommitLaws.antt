@@ -27,11 +27,13 @@ use Rattle.update.specs.Refused.{Weak}
 use Rattle.update.specs.Reading.{raw_weak}
 use Rattle.store.specs.Codec.{Codec, sealed, stored}
 use Rattle.store.specs.Blocks.{importing, after_commit}
-use Rattle.store.proofs.BlockLaws.{Commits, after_commit_lem, seal_importing}
+use Rattle.store.proofs.BlockLaws.{after_commit_lem, seal_importing}
+use Rattle.store.specs.Blocks.{Commits}
 use Rattle.store.specs.Plan.{required}
 use Rattle.store.specs.Store.{runs_of, image, write_pages}
 use Rattle.store.specs.Lawful.{Fits, Lawful, Good}
-use Rattle.store.proofs.MemoryLaws.{Reaches, pages-length, pages_at, stored_high, stored-length}
+use Rattle.store.proofs.MemoryLaws.{pages-length, pages_at, stored_high, stored-length}
+use Rattle.store.specs.Facts.{Reaches}
 
 -- ## Ends of runs
 

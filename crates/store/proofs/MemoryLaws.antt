@@ -18,16 +18,9 @@ use Rattle.update.specs.PageLaws.{Sized, Distinct, byte_clean, numbers_has}
 use Rattle.store.specs.Codec.{Codec, stored}
 use Rattle.store.specs.Store.{write_pages}
 use Rattle.store.specs.Lawful.{Fits, Lawful}
+use Rattle.store.specs.Facts.{Reaches}
 
 -- ## Growth
-
--- memory m of c stable pages grew to r of them and is m' now, and reaches `end`
-pub record Reaches (S c end : ℕ) (m : List ℕ) (r : ℕ) (m' : List ℕ) : Type 0 where
-  pub more : c ≤ r
-  pub reach : end ≤ r * S
-  pub lent : r * S ≤ length m
-  pub same_length : length m' ≡ length m
-  pub same : (i : ℕ) → i < c * S → get_or m' i 0 ≡ get_or m i 0
 
 module _ (S : ℕ) (pos : 0 < S) (c end : ℕ) (m : List ℕ) (held : c * S ≤ length m) where
   reach_of : (r : ℕ) → count S end ≤ r → end ≤ r * S

@@ -25,7 +25,8 @@ use Rattle.store.specs.Calls.{number}
 use Rattle.store.specs.Store.{resting, no_overlay}
 use Rattle.store.specs.Opening.{Opened, outside, not_opened, open_fresh, open_loaded, open_image}
 use Rattle.store.specs.Lawful.{Fits, LoadedAs, Lawful, Good}
-use Rattle.store.proofs.MemoryLaws.{Reaches, grow_cases, stored-length}
+use Rattle.store.proofs.MemoryLaws.{grow_cases, stored-length}
+use Rattle.store.specs.Facts.{Reaches}
 use Rattle.store.specs.Cases.{by_test, no_or}
 
 -- a refusal has a number

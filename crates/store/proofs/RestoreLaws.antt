@@ -6,17 +6,12 @@ use Rattle.meta.specs.declared.ZeroExtent.{ZeroExtent}
 use Rattle.update.specs.ListLaws.{clash}
 use Rattle.store.specs.Codec.{Codec, sealed, stored}
 use Rattle.store.specs.Blocks.{importing, after_import_cancel}
-use Rattle.store.proofs.BlockLaws.{Keeps, cancel_keeps, after_cancel, seal_importing}
+use Rattle.store.proofs.BlockLaws.{cancel_keeps, after_cancel, seal_importing}
+use Rattle.store.specs.Blocks.{Keeps}
 use Rattle.store.specs.Store.{runs_of}
 use Rattle.store.specs.Lawful.{Fits, Lawful, Good}
 use Rattle.store.proofs.MemoryLaws.{stored-length}
-
--- the database stays where it is, and an import that is open then is in order
-pub record Carries (S M c : ℕ) (h h' : Superblock) : Type 0 where
-  pub keeps : Keeps h h'
-  pub import_low : importing h' ≡ true → S ≤ h'.import_base_offset
-  pub import_inside : importing h' ≡ true → h'.import_base_offset + h'.import_written_until ≤ c * S
-  pub import_range : importing h' ≡ true → h'.import_base_offset + h'.import_total_size ≤ M
+use Rattle.store.specs.Facts.{Carries}
 
 pub cancel_carries : (S M c : ℕ) (h : Superblock) → Carries S M c h (after_import_cancel h)
 cancel_carries S M c h = record { keeps = cancel_keeps h; import_low = λ z. clash z (after_cancel h); import_inside = λ z. clash z (after_cancel h); import_range = λ z. clash z (after_cancel h) }

@@ -35,9 +35,11 @@ use Rattle.store.specs.Calls.{Call, begin, read, write, truncate, commit, rollba
 use Rattle.store.specs.Plan.{required}
 use Rattle.store.specs.Store.{budget_of, refuse, ended, image, runs_of, over, publish, settle, unchanged, planned_runs, commit_over, direct, change, do_begin, do_read, full, do_commit, do_rollback, restore, do_import_begin, place_chunk, do_import_chunk, do_import_finish, do_import_cancel, do_export, do_checksum, do_refresh, refresh_from, do_refresh_step, alone, act, swept, store}
 use Rattle.store.specs.Lawful.{Lawful, Good}
-use Rattle.store.proofs.MemoryLaws.{Reaches, pages-length, stored_long}
+use Rattle.store.proofs.MemoryLaws.{pages-length, stored_long}
+use Rattle.store.specs.Facts.{Reaches}
 use Rattle.store.proofs.CommitLaws.{new_block, flushed, after, commit_good, commit_image}
 use Rattle.store.specs.Cases.{by_test}
+use Rattle.store.specs.Facts.{Ends}
 
 grow-length : (S n end : ℕ) (m : List ℕ) → length (grow_to S n end m).mem ≡ length m
 unfolding grow_to
@@ -53,13 +55,6 @@ required_page P base [] end q h = clash h refl
 required_page P base (n ∷ ns) end q h = split (eqb q n)
     (λ t. rw (eqb-true q n t) (omega arith))
     (λ f. let r : base + (q + 1) * P ≤ required P base ns end = required_page P base ns end q (rw f at h) in omega arith)
-
--- 01: "A commit refused by 31, 20 or 32 (in this order) ends the update with memory unchanged; its frames, page numbers, clean frames and record, whole,
--- become zeros, as they do after any ended update or direct call."
-pub record Ends (l : Lent) (x : Out) : Type 0 where
-  pub over : x.state.updating ≡ false
-  pub zeroed : x.lent.bufs ≡ wiped l.bufs
-  pub kept : (number x.answer ≡ 0 → ⊥) → x.lent.mem ≡ l.mem
 
 module _ (P S C L M : ℕ) (k : Codec) where
   -- ## 35

@@ -5,6 +5,7 @@ use Rattle.std.proofs.Math.Dec.{eqb}
 use Rattle.config.specs.Pages.{count}
 use Rattle.meta.specs.declared.superblock.Superblock.{Superblock}
 use Rattle.meta.specs.Block.{of_fields}
+use Rattle.std.specs.Prelude.{◌≡◌}
 
 -- ## Flags: bit 1 an import is open, bit 2 the checksum is stale, bit 4 a refresh of it is under way
 
@@ -78,3 +79,53 @@ after_refresh sum b = set_numbers b.schema_version b.last_tx_id sum (set_flags (
 -- refresh is under way and reached this offset with this hash
 unfoldable pub after_refresh_step : ℕ → ℕ → Superblock → Superblock
 after_refresh_step offset hash b = set_flags (marks (importing b) (stale b) true b.flags) (set_refresh offset hash b.last_tx_id b)
+
+-- the database is where it was, and an open import is what it was
+pub record Keeps (b b' : Superblock) : Type 0 where
+  pub size : b'.db_size ≡ b.db_size
+  pub base : b'.db_base_offset ≡ b.db_base_offset
+  pub runs : b'.zero_extent_count ≡ b.zero_extent_count
+
+pub record KeepsImport (b b' : Superblock) : Type 0 where
+  pub mark : importing b' ≡ importing b
+  pub base : b'.import_base_offset ≡ b.import_base_offset
+  pub written : b'.import_written_until ≡ b.import_written_until
+  pub total : b'.import_total_size ≡ b.import_total_size
+
+pub record Commits (n runs : ℕ) (b b' : Superblock) : Type 0 where
+  pub size : b'.db_size ≡ n
+  pub base : b'.db_base_offset ≡ b.db_base_offset
+  pub count : b'.zero_extent_count ≡ runs
+  pub imports : KeepsImport b b'
+
+pub record ImportBegins (total base : ℕ) (b' : Superblock) : Type 0 where
+  pub mark : importing b' ≡ true
+  pub base_is : b'.import_base_offset ≡ base
+  pub written : b'.import_written_until ≡ 0
+  pub total_is : b'.import_total_size ≡ total
+
+pub record ChunkKeeps (written : ℕ) (b b' : Superblock) : Type 0 where
+  pub keeps : Keeps b b'
+  pub mark : importing b' ≡ importing b
+  pub base : b'.import_base_offset ≡ b.import_base_offset
+  pub written_is : b'.import_written_until ≡ written
+  pub total : b'.import_total_size ≡ b.import_total_size
+
+-- 02, W-202, "as `cancel_import` would": the mark goes and the four import fields become 0, nothing else of the block changes before it is sealed
+pub record Cancels (b b' : Superblock) : Type 0 where
+  pub mark : importing b' ≡ false
+  pub expected : b'.import_expected_checksum ≡ 0
+  pub written : b'.import_written_until ≡ 0
+  pub total : b'.import_total_size ≡ 0
+  pub base : b'.import_base_offset ≡ 0
+  pub stale_mark : stale b' ≡ stale b
+  pub refresh_mark : refreshing b' ≡ refreshing b
+  pub unknown_bits : b'.flags / 8 ≡ b.flags / 8
+  -- with flags and import as they were it is the block that it was
+  pub rest : set_flags b.flags (set_import b.import_expected_checksum b.import_written_until b.import_total_size b.import_base_offset b') ≡ b
+
+pub record Finishes (b b' : Superblock) : Type 0 where
+  pub size : b'.db_size ≡ b.import_total_size
+  pub base : b'.db_base_offset ≡ b.import_base_offset
+  pub count : b'.zero_extent_count ≡ 0
+  pub mark : importing b' ≡ false

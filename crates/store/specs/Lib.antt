@@ -9,3 +9,4 @@ pub mod Lawful
 pub mod Tries
 pub mod RealCodec
 pub mod Small
+pub mod Facts

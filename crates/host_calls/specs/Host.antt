@@ -1,0 +1,31 @@
+-- DEMAND 3 FOR A HOST: whoever opens an image with the C function and makes any list of C calls has the plain file.
+use Rattle.std.specs.Prelude.{◌≡◌, ℕ, false, length}
+use mathlib.Core.List.{List}
+use Rattle.words.specs.Words.{Bytes}
+use Rattle.store.specs.declared.State.{State}
+use Rattle.store.specs.Calls.{Lent, number}
+use Rattle.store.specs.Blocks.{importing}
+use Rattle.store.specs.Opening.{Opened}
+use Rattle.transfer.specs.OnMemory.{lent}
+use Rattle.encoding.specs.StateBytes.{state_in}
+use Rattle.plain_file.specs.Plain.{closed}
+use Rattle.plain_file.specs.Sizes.{plain_of}
+use Rattle.host_calls.specs.CCalls.{COpened, memory_passed, count_passed, state_left, memory_left}
+
+-- what a call gives back, to those that follow
+pub record Back : Type 0 where
+  pub number : ℕ
+  pub state : State
+  pub lent : Lent
+
+pub record Opens (st' m' : List ℕ) (x : Opened) : Type 0 where
+  pub accepted : number x.answer ≡ 0
+  pub state : state_in st' ≡ x.state
+  pub long : length st' ≡ 336
+  pub mem : m' ≡ x.mem
+
+-- THE OPENING FOR A HOST (02, W-202): `yuharopu_open` returned 0. No import is open in the state that it left, and an image that was there is the plain file
+-- that it was, also if its import was closed
+pub record HostOpens (o : COpened) : Type 0 where
+  pub none_open : importing (state_in (state_left o)).block ≡ false
+  pub same_file : Bytes (memory_passed o) → (count_passed o ≡ 0 → ⊥) → plain_of (memory_left o) ≡ plain_of (memory_passed o)
