@@ -85,7 +85,7 @@ fn in_crate(name: &str) -> Functions {
 }
 
 #[test]
-fn in_the_crates() {
+fn in_the_crate() {
     assert_eq!(in_crate("yuharopu"), in_header());
     assert_eq!(in_crate("yuharopu_c"), in_header());
 }
