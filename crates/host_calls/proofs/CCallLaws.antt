@@ -1,4 +1,4 @@
--- THE TIE: the contract of each of the fifteen functions is the one equation
+-- The C calls that were made keep what their functions' contracts promise.
 use Rattle.std.specs.Prelude.{◌≡◌, ◌≤◌, List, [], ◌∷◌, length}
 use Rattle.std.proofs.Common.{arith}
 use Rattle.encoding.specs.Called.{open_called, open_at}
@@ -6,6 +6,7 @@ use Rattle.plain_file.specs.Sizes.{Word'}
 use Rattle.host_calls.specs.Made.{ByC, AllByC}
 use Rattle.host_calls.specs.CCalls.{CCall, COpened, answer_left, answer_passed, count_passed, made_all, made_of, memory_left, memory_passed, state_left, state_passed, yuharopu_begin_import, yuharopu_begin_update, yuharopu_cancel_import, yuharopu_checksum, yuharopu_commit_update, yuharopu_export_chunk, yuharopu_file_size, yuharopu_finish_import, yuharopu_import_chunk, yuharopu_read_at, yuharopu_refresh_checksum, yuharopu_refresh_checksum_chunk, yuharopu_rollback_update, yuharopu_truncate, yuharopu_write_at}
 
+-- THE TIE: the contract of each of the fifteen functions is the one equation
 pub by_c : (c : CCall) → ByC (made_of c)
 by_c (yuharopu_begin_update x l) = x.promised l
 by_c (yuharopu_read_at x w) = x.promised w

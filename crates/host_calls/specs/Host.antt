@@ -1,4 +1,4 @@
--- DEMAND 3 FOR A HOST: whoever opens an image with the C function and makes any list of C calls has the plain file.
+-- What a host has from a call for those that follow, and from an opening.
 use Rattle.std.specs.Prelude.{◌≡◌, ℕ, false, length}
 use mathlib.Core.List.{List}
 use Rattle.words.specs.Words.{Bytes}

@@ -1,4 +1,4 @@
--- DEMAND 3 FOR A HOST, OF THE LAST CALL: what a C call owes after any list of C calls; every read gives the bytes and the full-or-short answer of the plain
+-- The last of a list of C calls: what the calls before it leave of the state's bytes, the plain file and the slices, and what is owed of it.
 use Rattle.std.specs.Prelude.{◌≡◌, ℕ, cond, List, [], ◌∷◌, take}
 use Rattle.store.specs.Calls.{read, Lent}
 use Rattle.transfer.specs.OnMemory.{lent}

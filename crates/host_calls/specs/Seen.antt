@@ -1,4 +1,4 @@
--- What is seen of a C call is what the store's definition makes of the state that the bytes hold.
+-- A C call as it was promised, and what is seen of it.
 use Rattle.std.specs.Prelude.{◌≡◌, ℕ, List, length}
 use Rattle.memory.specs.Bytes.{overwrite}
 use Rattle.store.specs.Calls.{Call, Lent, Out, number}
