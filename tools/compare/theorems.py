@@ -12,7 +12,7 @@ REFUSALS = {
 # module, its names; those after the bar are computed through, some only with one codec
 NAMES = """
 config.specs.Pages| count
-memory.specs.Bytes| zeros overwrite resize
+memory.specs.Bytes zeros| filled overwrite resize
 memory.specs.Growth stable| grow_to=growMemory required=requiredPages
 meta.specs.Runs| normalized
 meta.specs.Block magic of_fields|real field_offset fields_in decode=decodeBlock checksum_of seal prefix encoded_len block_bytes encode header header_of fresh=freshBlock
@@ -46,8 +46,8 @@ use Rattle.update.specs.declared.Overlay.{Overlay}
 use Rattle.update.specs.declared.Budget.{Budget}
 use Rattle.update.specs.Buffers.{Buffers}
 use Rattle.store.specs.declared.State.{State}
-use Rattle.store.specs.declared.Answer.{Answer}
-use Rattle.store.specs.declared.Answer.TheVariants.{Refreshed}
+use Rattle.store.specs.Answers.{Answer}
+use Rattle.store.specs.Answers.{Refreshed}
 use Rattle.store.specs.Calls.{Lent}
 use Rattle.store.specs.Opening.{Opened}
 
@@ -105,7 +105,7 @@ def header(crate, about, codecs):
         "use Rattle.std.specs.Prelude.{◌≡◌, refl, ℕ, Bool, true, false, List, [], ◌∷◌, ◌++◌}",
         "use Rattle.config.specs.declared.refusal.Refusal.TheVariants.{" + ", ".join(REFUSALS.values()) + "}",
         "use Rattle.store.specs.declared.State.{State}",
-        "use Rattle.store.specs.declared.Answer.TheVariants.{Done, Size, Read, Exported, Checksum, Refreshed, Refused}",
+        "use Rattle.store.specs.Answers.{Done, Size, Read, Exported, Checksum, Refreshed, Refused}",
         f"use Rattle.{crate}.specs.Shapes.{{budget, overlay, state, lent, refreshed, opened}}",
     ]
     return "\n".join([f"-- {about}"] + fixed + uses) + "\n"

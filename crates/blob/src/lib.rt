@@ -1,4 +1,5 @@
 // The store: an image in lent memory, an update of it, its commit in place. Every call takes any state and any slices.
+// The lent slices are parameters of their own, as `update::Stored` says.
 #![tactic(auto)]
 
 mod changing;

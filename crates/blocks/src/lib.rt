@@ -1,33 +1,35 @@
 // What each call makes of the superblock. Page size, schema version (but for the end of an import) and unknown bits of the flags are carried on.
 #![tactic(auto)]
 
-ghost use Rattle.std.specs.Prelude.{◌≡◌, false, suc, ◌≤◌, min};
-ghost use Rattle.store.specs.Blocks.{bit, importing, stale, refreshing, marks, set_image, set_import, set_refresh, set_numbers, set_flags, after_commit, after_import_begin, after_import_chunk, after_import_cancel, after_import_finish, after_refresh, after_refresh_step};
+ghost use Rattle.std.specs.Prelude.{◌≡◌, false, ◌<◌, ◌/◌, ◌%◌, eqb};
+ghost use Rattle.store.specs.Blocks.{importing, stale, refreshing, marks, set_image, set_import, set_refresh, set_numbers, set_flags, after_commit, after_import_begin, after_import_chunk, after_import_cancel, after_import_finish, after_refresh, after_refresh_step};
 
 use meta::Superblock;
+
+// Whether a mark is set; its flag is a power of two.
+fn has(b: Superblock, flag: u64) -> bool
+    requires { 0 < flag }
+    ensures { result ≡ eqb (b.flags / flag % 2) 1 }
+{
+    b.flags / flag % 2 == 1
+}
 
 pub fn is_importing(b: Superblock) -> bool
     ensures { result ≡ importing b }
 {
-    b.flags / Superblock::FLAG_IMPORTING % 2 == 1
+    has(b, Superblock::FLAG_IMPORTING)
 }
 
 fn is_stale(b: Superblock) -> bool
     ensures { result ≡ stale b }
 {
-    b.flags / Superblock::FLAG_CHECKSUM_STALE % 2 == 1
+    has(b, Superblock::FLAG_CHECKSUM_STALE)
 }
 
 pub fn is_refreshing(b: Superblock) -> bool
     ensures { result ≡ refreshing b }
 {
-    b.flags / Superblock::FLAG_CHECKSUM_REFRESHING % 2 == 1
-}
-
-fn flag(set: bool) -> u64
-    ensures { (result ≡ bit set) × (result ≤ 1) }
-{
-    if set { 1 } else { 0 }
+    has(b, Superblock::FLAG_CHECKSUM_REFRESHING)
 }
 
 // The bits from here on are carried on as they are.
@@ -37,18 +39,16 @@ const UNKNOWN_FLAGS: u64 = 2 * Superblock::FLAG_CHECKSUM_REFRESHING;
 fn with_marks(importing: bool, stale: bool, refreshing: bool, flags: u64) -> u64
     ensures { result ≡ marks importing stale refreshing flags }
 {
-    let set = Superblock::FLAG_IMPORTING * flag(importing)
-        + Superblock::FLAG_CHECKSUM_STALE * flag(stale)
-        + Superblock::FLAG_CHECKSUM_REFRESHING * flag(refreshing);
+    let set = Superblock::FLAG_IMPORTING * u64::from(importing)
+        + Superblock::FLAG_CHECKSUM_STALE * u64::from(stale)
+        + Superblock::FLAG_CHECKSUM_REFRESHING * u64::from(refreshing);
     flags / UNKNOWN_FLAGS * UNKNOWN_FLAGS + set
 }
 
 fn with_flags(b: Superblock, flags: u64) -> Superblock
     ensures { result ≡ set_flags flags b }
 {
-    let mut next = b;
-    next.flags = flags;
-    next
+    Superblock { flags, ..b }
 }
 
 // A database of `size` bytes at `base`, with so many runs.
@@ -56,58 +56,53 @@ fn with_image(b: Superblock, base: u64, size: u64, runs: u64) -> Superblock
     ensures { result ≡ set_image 16384 base size runs b }
 {
     let pages = config::page_count_for_size(size);
-    let mut next = b;
-    next.db_size = size;
-    next.db_base_offset = base;
-    next.page_table_offset = 0;
-    next.page_count = pages.0;
-    next.layout_version = Superblock::LAYOUT_VERSION;
-    next.zero_extent_count = runs;
-    next
+    Superblock {
+        db_size: size,
+        db_base_offset: base,
+        page_table_offset: 0,
+        page_count: pages.0,
+        layout_version: Superblock::LAYOUT_VERSION,
+        zero_extent_count: runs,
+        ..b
+    }
 }
 
 fn with_import(b: Superblock, expected: u64, written: u64, total: u64, base: u64) -> Superblock
     ensures { result ≡ set_import expected written total base b }
 {
-    let mut next = b;
-    next.import_expected_checksum = expected;
-    next.import_written_until = written;
-    next.import_total_size = total;
-    next.import_base_offset = base;
-    next
+    Superblock {
+        import_expected_checksum: expected,
+        import_written_until: written,
+        import_total_size: total,
+        import_base_offset: base,
+        ..b
+    }
 }
 
 fn with_refresh(b: Superblock, offset: u64, hash: u64, tx: u64) -> Superblock
     ensures { result ≡ set_refresh offset hash tx b }
 {
-    let mut next = b;
-    next.checksum_refresh_offset = offset;
-    next.checksum_refresh_hash = hash;
-    next.checksum_refresh_tx_id = tx;
-    next
+    Superblock {
+        checksum_refresh_offset: offset,
+        checksum_refresh_hash: hash,
+        checksum_refresh_tx_id: tx,
+        ..b
+    }
 }
 
 fn with_numbers(b: Superblock, schema: u64, tx: u64, checksum: u64) -> Superblock
     ensures { result ≡ set_numbers schema tx checksum b }
 {
-    let mut next = b;
-    next.schema_version = schema;
-    next.last_tx_id = tx;
-    next.checksum = checksum;
-    next
-}
-
-// The number after `n`, or the largest.
-fn next_number(n: u64) -> u64
-    ensures { result ≡ min (suc n) 18446744073709551615 }
-{
-    if n == u64::MAX {
-        return n;
+    Superblock {
+        schema_version: schema,
+        last_tx_id: tx,
+        checksum,
+        ..b
     }
-    n + 1
 }
 
 // "then the superblock": of an update's commit, or of a direct call's.
+// `update` says which: a mark of what the block keeps, and no switch of steps.
 pub fn after_commit(b: Superblock, update: bool, size: u64, runs: u64) -> Superblock
     ensures { result ≡ after_commit 16384 18446744073709551615 update size runs b }
 {
@@ -120,7 +115,7 @@ pub fn after_commit(b: Superblock, update: bool, size: u64, runs: u64) -> Superb
     with_numbers(
         marked,
         b.schema_version,
-        next_number(b.last_tx_id),
+        b.last_tx_id.saturating_add(1),
         b.checksum,
     )
 }
@@ -135,9 +130,10 @@ pub fn after_import_begin(b: Superblock, total: u64, expected: u64, base: u64) -
 pub fn after_import_chunk(b: Superblock, written: u64) -> Superblock
     ensures { result ≡ after_import_chunk written b }
 {
-    let mut next = b;
-    next.import_written_until = written;
-    next
+    Superblock {
+        import_written_until: written,
+        ..b
+    }
 }
 
 pub fn after_import_cancel(b: Superblock) -> Superblock

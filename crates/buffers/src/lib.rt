@@ -1,4 +1,5 @@
 // The lent slices of an update: frames with their page numbers, clean frames, and the record.
+// The lent slices are parameters of their own, as `update::Stored` says.
 #![tactic(auto)]
 
 ghost use Rattle.std.specs.Prelude.{◌≡◌};
@@ -6,44 +7,33 @@ ghost use Rattle.update.specs.Buffers.{short_buffers, dirty_page, wiped};
 ghost use Rattle.update.specs.Laid.{bufs, settle};
 
 use config::PAGE_LEN;
-use update::Overlay;
+use update::{CleanCache, Overlay};
 
 // Whether a slice is shorter than what it holds, or the clean frames are under eight pages.
+#[tactic(auto, unfolding(update::specs::Buffers::short_buffers, update::specs::Buffers::frame_count))]
 pub fn are_short(o: Overlay, frames: &[u8], numbers: &[u64], clean: &[u8], record: &[u64]) -> bool
     ensures { result ≡ short_buffers 16384 8 o (bufs frames.now numbers.now clean.now «record».now) }
 {
-    if touch::frame_count(frames, numbers) < o.dirty {
-        return true;
-    }
-    if record.len() / 2 < o.recorded {
-        return true;
-    }
-    clean.len() < 8 * PAGE_LEN
+    touch::frame_count(frames, numbers) < o.dirty
+        || record.len() / 2 < o.recorded
+        || clean.len() < CleanCache::CAPACITY * PAGE_LEN
 }
 
 // The overlay as every call leaves it: its cache has no number past its count.
-pub fn settle(o: Overlay) -> Overlay
-    ensures { result ≡ settle 16384 8 o }
+pub fn settle(o: &mut Overlay)
+    ensures { o.new ≡ settle 16384 8 o.old }
 {
-    let c = o.cache;
-    let cache = pool::settle(c);
-    let mut next = o;
-    next.cache = cache;
-    next
+    pool::settle(&mut o.cache);
 }
 
 // "is shown to callers as the part of the lent frames that holds it": empty if the page is not dirty.
 pub fn dirty_page<'a>(o: Overlay, frames: &'a [u8], numbers: &[u64], page: u64) -> &'a [u8]
     ensures { result.now ≡ dirty_page 16384 8 o frames.now numbers.now page }
 {
-    let dirty = o.dirty;
-    let at = pool::find(numbers, dirty, page);
-    if dirty <= at {
+    let used = o.dirty.min(numbers.len());
+    let Some(at) = pool::find(&numbers[..used], page) else {
         return &frames[..0];
-    }
-    if numbers.len() <= at {
-        return &frames[..0];
-    }
+    };
     if frames.len() / PAGE_LEN <= at {
         return &frames[..0];
     }
@@ -56,8 +46,8 @@ pub fn dirty_page<'a>(o: Overlay, frames: &'a [u8], numbers: &[u64], page: u64) 
 pub fn wipe(frames: &mut [u8], numbers: &mut [u64], clean: &mut [u8], record: &mut [u64])
     ensures { bufs frames.new numbers.new clean.new «record».new ≡ wiped (bufs frames.old numbers.old clean.old «record».old) }
 {
-    memory::fill(frames);
-    memory::fill_numbers(numbers);
-    memory::fill(clean);
-    memory::fill_numbers(record);
+    memory::fill(frames, 0);
+    memory::fill(numbers, 0);
+    memory::fill(clean, 0);
+    memory::fill(record, 0);
 }

@@ -1,31 +1,40 @@
 -- A commit without the buffers that it clears in the end: the count, the block, memory and the answer.
-use Rattle.std.specs.Prelude.{ℕ, ◌+◌, Bool, cond, ◌&&◌, List, ltb, eqb, length}
+use Rattle.std.specs.Prelude.{ℕ, ◌+◌, Bool, cond, ◌&&◌, List, ltb, eqb, length, Ok, Err}
 use Rattle.config.specs.Pages.{count}
 use Rattle.config.specs.declared.refusal.Refusal.TheVariants.{OffsetOverflow, ZeroExtentLimitExceeded}
+use Rattle.config.specs.declared.StablePages.{StablePages}
 use Rattle.memory.specs.Growth.{grow_to, stable}
-use Rattle.memory.specs.declared.Growth.{Growth}
-use Rattle.memory.specs.declared.Growth.TheVariants.{Grown, Refused as NotGrown}
+use Rattle.memory.specs.Growth.{Growth}
 use Rattle.meta.specs.declared.superblock.Superblock.{Superblock}
 use Rattle.meta.specs.declared.ZeroExtent.{ZeroExtent}
 use Rattle.extents.specs.Plan.{too_many, kept, below, Answer as Planned}
 use Rattle.update.specs.Lists.{null}
 use Rattle.update.specs.Pages.{Page, page_numbers}
 use Rattle.store.specs.declared.State.{State}
-use Rattle.store.specs.declared.Answer.{Answer}
-use Rattle.store.specs.declared.Answer.TheVariants.{Done, Refused}
+use Rattle.store.specs.Answers.{Answer}
+use Rattle.store.specs.Answers.{Done, Refused}
 use Rattle.store.specs.Codec.{Codec, sealed, stored}
 use Rattle.store.specs.Blocks.{after_commit}
 use Rattle.store.specs.Plan.{store_plan, required}
 use Rattle.store.specs.Store.{runs_of, write_pages}
-use Rattle.commit.specs.declared.Committed.{Committed}
 
--- the answer and memory
+-- the count and the block after a commit, and the answer
+pub record Committed : Type 0 where
+  pub count : StablePages
+  pub block : Superblock
+  pub answer : Answer
+
+-- with memory
 pub record Outcome : Type 0 where
   pub result : Committed
   pub mem : List ℕ
 
 abbrev pub committed : ℕ → Superblock → Answer → List ℕ → Outcome
 committed c b a m = record { result = record { count = stable c; block = b; answer = a }; mem = m }
+
+-- a state's count and block
+abbrev pub left_by : State → Answer → Committed
+left_by s a = record { count = s.count; block = s.block; answer = a }
 
 abbrev pub outcome : Committed → List ℕ → Outcome
 outcome r m = record { result = r; mem = m }
@@ -38,8 +47,8 @@ module _ (P S C L M : ℕ) (k : Codec) where
 
   -- u: an update's commit, or a direct call's; n: the new size; d: the dirty pages; g: memory grown, and whether it could
   abbrev pub publish_to : Bool → State → List ℕ → ℕ → List Page → List ZeroExtent → List ℕ → Growth → Outcome
-  publish_to u s m n d rs g (NotGrown r) = kept_as s m (Refused r)
-  publish_to u s m n d rs g (Grown c) =
+  publish_to u s m n d rs g (Err r) = kept_as s m (Refused r)
+  publish_to u s m n d rs g (Ok c) =
       let b : Superblock = after_commit P M u n (length rs) s.block in
       committed c.0 (sealed k b rs) Done (stored k b rs (write_pages P S C L M k s.block.db_base_offset (count P n) d g))
 

@@ -1,6 +1,6 @@
 -- A commit in the store's definition and in the code's, which clears the buffers in the end; and the store's definition at a commit and at a rollback: one
 -- law for each way out.
-use Rattle.std.specs.Prelude.{◌≡◌, ℕ, ◌+◌, ◌*◌, ◌≤◌, Bool, true, false, ltb, take}
+use Rattle.std.specs.Prelude.{◌≡◌, ℕ, ◌+◌, ◌*◌, ◌≤◌, Bool, true, false, ltb, take, Ok, Err}
 use Rattle.std.proofs.Math.Path.{refl, sym, ap}
 use Rattle.std.proofs.Common.{◌∙◌, arith}
 use Rattle.std.proofs.Math.Bool.{cond, or-false}
@@ -11,8 +11,7 @@ use Rattle.config.specs.Pages.{count}
 use Rattle.config.specs.declared.refusal.Refusal.TheVariants.{OffsetOverflow, BufferTooShort}
 use Rattle.memory.specs.Bytes.{zeros}
 use Rattle.memory.specs.Growth.{grow_to, Outcome as GrowOut}
-use Rattle.memory.specs.declared.Growth.{Growth}
-use Rattle.memory.specs.declared.Growth.TheVariants.{Grown, Refused as NotGrown}
+use Rattle.memory.specs.Growth.{Growth}
 use Rattle.meta.specs.declared.ZeroExtent.{ZeroExtent}
 use Rattle.runs.specs.Flat.{runs_in}
 use Rattle.extents.specs.Plan.{too_many, kept, below, Answer as Planned}
@@ -25,7 +24,7 @@ use Rattle.update.specs.BufferLaws.{frames_fit, numbers_fit}
 use Rattle.update.specs.Laid.{Fits, settle as settled}
 use Rattle.update.specs.SettleLaws.{settle_fits}
 use Rattle.store.specs.declared.State.{State}
-use Rattle.store.specs.declared.Answer.TheVariants.{Done, Refused}
+use Rattle.store.specs.Answers.{Done, Refused}
 use Rattle.store.specs.Codec.{Codec, real_codec}
 use Rattle.store.specs.Cases.{no_or}
 use Rattle.store.specs.Calls.{Call, commit, rollback, uses, lent_bytes, Lent, Out, out, mode_if, mode_of, buffers_short, short}
@@ -49,8 +48,8 @@ module _ (P S C L M : ℕ) (k : Codec) where
   module _ (u : Bool) (s : State) (m : List ℕ) (b : Buffers) (work : List ℕ) (w : Over) where
     publish_is : (rs : List ZeroExtent) (g : List ℕ) (a : Growth)
         → publish P S C L M k u s (lent m b work) w rs g a ≡ ended_by b work (publish_to P S C L M k u s m w.size w.dirty rs g a)
-    publish_is rs g (NotGrown r) = refl
-    publish_is rs g (Grown c) = refl
+    publish_is rs g (Err r) = refl
+    publish_is rs g (Ok c) = refl
 
     settle_is : (p : Planned) → settle P S C L M k u s (lent m b work) w p ≡ ended_by b work (settle_to P S C L M k u s m w.size w.dirty p)
     settle_is too_many = refl

@@ -6,8 +6,8 @@ use Rattle.update.specs.declared.Overlay.{Overlay}
 use Rattle.update.specs.declared.Budget.{Budget}
 use Rattle.update.specs.Buffers.{Buffers}
 use Rattle.store.specs.declared.State.{State}
-use Rattle.store.specs.declared.Answer.{Answer}
-use Rattle.store.specs.declared.Answer.TheVariants.{Refreshed}
+use Rattle.store.specs.Answers.{Answer}
+use Rattle.store.specs.Answers.{Refreshed}
 use Rattle.store.specs.Calls.{Lent}
 use Rattle.store.specs.Opening.{Opened}
 

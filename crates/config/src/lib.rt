@@ -3,7 +3,7 @@
 
 mod refusal;
 
-ghost use Rattle.std.specs.Prelude.{◌≡◌, ◌/◌, ◌%◌, ◌<◌};
+ghost use Rattle.std.specs.Prelude.{◌≡◌, ◌/◌, ◌%◌};
 ghost use Rattle.config.specs.Pages.{count};
 
 pub use refusal::{Numbers, Refusal};
@@ -11,7 +11,7 @@ pub use refusal::{Numbers, Refusal};
 pub const SQLITE_PAGE_SIZE: u64 = 16_384;
 
 // The same, as a length of a slice.
-pub const PAGE_LEN: usize = 16_384;
+pub const PAGE_LEN: usize = SQLITE_PAGE_SIZE as usize;
 
 pub const STABLE_PAGE_SIZE: u64 = 65_536;
 
@@ -20,30 +20,19 @@ pub const SUPERBLOCK_OFFSET: u64 = 0;
 pub const DB_REGION_OFFSET: u64 = 65_536;
 
 // A count of pages of the database; of one page, how many are before it.
-#[derive(Clone, Copy)]
+#[derive(Clone, Copy, Debug, PartialEq, Eq, PartialOrd, Ord)]
 pub struct Pages(pub u64);
 
 // A count of stable pages of memory, never taken for a count of pages.
-#[derive(Clone, Copy)]
+#[derive(Clone, Copy, Debug, PartialEq, Eq, PartialOrd, Ord)]
 pub struct StablePages(pub u64);
 
-// `n` divided by `by`, rounded up.
-fn div_ceil(n: u64, by: u64) -> u64
-    requires { 0 < by }
-    ensures { result ≡ count by n }
-{
-    let whole = n / by;
-    if n % by == 0 {
-        return whole;
-    }
-    whole + 1
-}
-
 // The pages that `size` bytes of the database need.
+#[tactic(auto, unfolding(crate::specs::Pages::count))]
 pub fn page_count_for_size(size: u64) -> Pages
     ensures { result.0 ≡ count 16384 size }
 {
-    Pages(div_ceil(size, SQLITE_PAGE_SIZE))
+    Pages(size.div_ceil(SQLITE_PAGE_SIZE))
 }
 
 // The page in which a byte offset of the database lies.
@@ -61,8 +50,9 @@ pub fn page_offset(offset: u64) -> usize
 }
 
 // The stable pages that `bytes` bytes of memory need.
+#[tactic(auto, unfolding(crate::specs::Pages::count))]
 pub fn stable_pages_for(bytes: u64) -> StablePages
     ensures { result.0 ≡ count 65536 bytes }
 {
-    StablePages(div_ceil(bytes, STABLE_PAGE_SIZE))
+    StablePages(bytes.div_ceil(STABLE_PAGE_SIZE))
 }

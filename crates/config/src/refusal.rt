@@ -5,7 +5,7 @@ ghost use Rattle.config.specs.Refusals.{these as of};
 
 use crate::StablePages;
 
-#[derive(Clone, Copy)]
+#[derive(Clone, Copy, Debug, PartialEq, Eq)]
 pub enum Refusal {
     ForeignStableMemoryImage,
     UnsupportedLayoutVersion(u64),
@@ -36,7 +36,7 @@ pub enum Refusal {
 }
 
 // What callers see of a refusal: its number, and its values, 0 where it has none.
-#[derive(Clone, Copy)]
+#[derive(Clone, Copy, Debug, PartialEq, Eq)]
 pub struct Numbers {
     pub number: u64,
     pub first: u64,
@@ -53,11 +53,11 @@ fn these(number: u64, first: u64, second: u64) -> Numbers
     }
 }
 
-impl Refusal {
-    pub fn numbers(self) -> Numbers
-        ensures { result ≡ numbers_of self }
-    {
-        match self {
+impl From<Refusal> for Numbers {
+    ghost from_gives = { λ refusal numbers. numbers ≡ numbers_of refusal };
+
+    fn from(refusal: Refusal) -> Numbers {
+        match refusal {
             Refusal::ForeignStableMemoryImage => these(1, 0, 0),
             Refusal::UnsupportedLayoutVersion(version) => these(2, version, 0),
             Refusal::MetaChecksumMismatch => these(3, 0, 0),

@@ -6,6 +6,7 @@ use Rattle.std.proofs.Math.ListN.{length, length-append, get_or-append, drop_of_
 use Rattle.std.proofs.Math.Seq.{drop-cons, drop-drop, drop-append_seam}
 use borrow.Author.Tests.{ltb-true, ltb-false, leb-true, eqb-true, eqb-false, lt-ltb, le-ltb, le-leb, lt-leb, eq-eqb, ne_eqb}
 use Rattle.decimal.specs.Decimal.{decimal, ten, split, decimal_one, decimal_more}
+use Rattle.std.specs.Char.{is_ascii_digit}
 use Rattle.decimal.specs.Text.{Got, got, wrong, then, from, is_at, skip, is_digit, digits, number}
 
 -- ## One reader behind another
@@ -102,6 +103,11 @@ skip_other b w [] h = refl
 skip_other b w (c ∷ l) h = rw (ne_eqb c b h)
 
 -- ## Digits
+
+-- as the library tests it
+pub digit_is : (c : ℕ) → is_ascii_digit c ≡ is_digit c
+unfolding is_digit
+digit_is c = refl
 
 pub digit_yes : (c : ℕ) → 48 ≤ c → c ≤ 57 → is_digit c ≡ true
 unfolding is_digit

@@ -1,8 +1,9 @@
 -- Writing: a buffer with a word put over its bytes from a place on, and the place behind the word.
 use Rattle.std.specs.Prelude.{◌≡◌, refl, List, [], ◌∷◌, ◌++◌, ℕ, suc, ◌+◌, ◌/◌, ◌%◌, ◌≤◌, ◌<◌, length, take, drop, get_or, set}
-use Rattle.std.proofs.Common.{ap, ◌∙◌, add-one, arith, length-append, drop_of_length-le, drop-cons}
+use Rattle.std.proofs.Common.{ap, sym, ◌∙◌, append_assoc, add-one, arith, length-append, drop_of_length-le, drop-cons}
 use Rattle.std.proofs.lemmas.List.Edits.{sets, sets-eq}
-use Rattle.std.proofs.Math.Seq.{length-sets}
+use Rattle.std.proofs.Math.Seq.{length-sets, drop-drop}
+use borrow.Rule.Slice.PartMut.{put_mid}
 use Rattle.decimal.specs.Decimal.{decimal, decimal_one, decimal_more}
 
 pub record Written : Type 0 where
@@ -15,7 +16,7 @@ written n b = record { next = n; bytes = b }
 unfoldable pub write : ℕ → List ℕ → List ℕ → Written
 write at word out = written (at + length word) (sets out at word)
 
-sets_append : (a b l : List ℕ) (i : ℕ) → sets (sets l i a) (i + length a) b ≡ sets l i (a ++ b)
+pub sets_append : (a b l : List ℕ) (i : ℕ) → sets (sets l i a) (i + length a) b ≡ sets l i (a ++ b)
 sets_append [] b l i = let e : i + 0 ≡ i = omega arith in ap (λ (k : ℕ). sets l k b) e
 sets_append (x ∷ a) b l i =
     let e : i + suc (length a) ≡ suc i + length a = omega arith in
@@ -43,6 +44,16 @@ write_none at out = let e : at + 0 ≡ at = omega arith in λ i. written (e i) o
 
 pub write_done : (at : ℕ) (word : List ℕ) (i : ℕ) (out : List ℕ) → length word ≤ i → write at (drop i word) out ≡ written at out
 write_done at word i out h = ap (λ (w : List ℕ). write at w out) (drop_of_length-le word {i = i} h) ∙ write_none at out
+
+-- a word copied into the part of a buffer that is as long
+pub sets_part : (at k : ℕ) (word out new : List ℕ) → at + length word ≤ length out → k ≡ length word → new ≡ word → put_mid at k out new ≡ sets out at word
+sets_part at k word out new h e f =
+    let rest : drop (length word) (drop at out) ≡ drop (at + length word) out = drop-drop (length word) at out in
+    rw (e, f, rest) (sym (append_assoc (take at out) word (drop (at + length word) out)) ∙ sym (sets-eq word out at h))
+
+pub write_part : (at k : ℕ) (word out new : List ℕ) → at + length word ≤ length out → k ≡ length word → new ≡ word → written (at + length word) (put_mid at k out new) ≡ write at word out
+unfolding write
+write_part at k word out new h e f = ap (written (at + length word)) (sets_part at k word out new h e f)
 
 -- one byte
 pub write_one : (at b : ℕ) (out : List ℕ) → written (at + 1) (set out at b) ≡ write at (b ∷ []) out

@@ -8,25 +8,21 @@ pub fn put(out: &mut [u8], at: usize, word: &[u8]) -> usize
     requires { at + length word.now ≤ length out.old }
     ensures { written result out.new ≡ write at word.now out.old }
 {
-    let mut next = at;
-    let mut i: usize = 0;
-    while i < word.len() {
-        out[next] = word[i];
-        next += 1;
-        i += 1;
-    }
-    next
+    let end = at + word.len();
+    out[at..end].copy_from_slice(word);
+    end
 }
 
 fn put_digit(out: &mut [u8], at: usize, digit: u64) -> usize
     requires { (at < length out.old) × (digit < 10) }
     ensures { written result out.new ≡ write at ((48 + digit) ∷ []) out.old }
 {
-    out[at] = 48 + digit as u8;
+    out[at] = b'0' + digit as u8;
     at + 1
 }
 
 // The digits of `n` from the place `at` on: the place behind them.
+// By hand, since `write!` into a slice promises its bytes only where it succeeds, and no clause of std says when it does.
 pub fn put_number(out: &mut [u8], at: usize, n: u64) -> usize
     requires { at + length (decimal n) ≤ length out.old }
     ensures { written result out.new ≡ write at (decimal n) out.old }

@@ -1,17 +1,16 @@
 -- What a C function of the store answers, and what it leaves in everything that it was lent. The state passes as 336 bytes, the answer's values as
 -- four numbers in front of a list.
-use Rattle.std.specs.Prelude.{◌≡◌, refl, ℕ, Bool, not, cond, ◌||◌, List, [], ◌∷◌, ltb, length}
+use Rattle.std.specs.Prelude.{◌≡◌, refl, ℕ, Bool, not, cond, ◌||◌, List, [], ◌∷◌, ltb, length, Option, Some, None, Result, Ok, Err}
 use Rattle.std.proofs.Common.{sym, ◌∙◌}
 use Rattle.std.proofs.Math.Path.{ap}
 use Rattle.std.proofs.Math.Bool.{true, false}
 use Rattle.std.proofs.Math.Dec.{eqb}
 use borrow.Author.Tests.{eq-eqb, ne_eqb}
+use Rattle.config.specs.declared.refusal.Refusal.{Refusal}
 use Rattle.config.specs.Refusals.{numbers_of}
 use Rattle.memory.specs.Bytes.{overwrite}
 use Rattle.store.specs.declared.State.{State}
-use Rattle.store.specs.declared.Answer.{Answer}
-use Rattle.store.specs.declared.Answer.TheVariants.{Done, Size, Read, Exported, Checksum, Refreshed, Refused}
-use Rattle.store.specs.declared.ChecksumRefresh.{ChecksumRefresh}
+use Rattle.store.specs.Answers.{Answer, Done, Size, Read, Exported, Checksum, Refreshed, Refused, answered}
 use Rattle.store.specs.Codec.{real_codec}
 use Rattle.store.specs.Calls.{Call, Lent, Out, lent_bytes}
 use Rattle.store.specs.Calls.{number as number_of}
@@ -96,6 +95,10 @@ called n st l an f = called_as (showing n st an) l f
 unfoldable pub too_short : List ℕ → List ℕ → Bool
 too_short st an = not (eqb (length st) 336) || ltb (length an) 4
 
+-- the state that the bytes hold, unless they or the answer are too short
+unfoldable pub state_given : List ℕ → List ℕ → Option State
+state_given st an = cond (too_short st an) None (Some (state_in st))
+
 abbrev pub shown : List ℕ → List ℕ → Out → Called
 shown st an x = called_as (step_shown st an x.state x.answer) x.lent x.filled
 
@@ -137,6 +140,25 @@ open_shown st an x = opened_as (step_shown st an x.state x.answer) x.mem
 unfoldable pub open_at : List ℕ → List ℕ → List ℕ → ℕ → OpenCalled
 open_at st an m n = cond (too_short st an) (open_called 35 st m an) (open_shown st an (open' 16384 65536 8 1024 18446744073709551615 real_codec n m))
 
+-- ## Laws: what is known where a state was given, and where none was
+
+module _ (st an : List ℕ) where
+  given_none_by : (t : Bool) → None ≡ cond t None (Some (state_in st)) → t ≡ true
+  given_none_by true e = refl
+  given_none_by false e = cc
+
+  pub given_none : None ≡ state_given st an → too_short st an ≡ true
+  unfolding state_given
+  given_none e = given_none_by (too_short st an) e
+
+  given_some_by : (t : Bool) (s : State) → Some s ≡ cond t None (Some (state_in st)) → (t ≡ false) × (s ≡ state_in st)
+  given_some_by true s e = cc
+  given_some_by false s e = (refl, cc)
+
+  pub given_some : (s : State) → Some s ≡ state_given st an → (too_short st an ≡ false) × (s ≡ state_in st)
+  unfolding state_given
+  given_some s e = given_some_by (too_short st an) s e
+
 -- ## Laws: a call from what it is made of
 
 pub call_short : (st an : List ℕ) (l : Lent) (c : Call) → too_short st an ≡ true → refused_short st an l c ≡ call st an l c
@@ -166,6 +188,29 @@ module _ (st an : List ℕ) (long : too_short st an ≡ false) (y : Shown) where
   unfolding open_at
   open_done m n x made h = rw long (ap (λ (z : Shown). opened_as z x.mem) h ∙ ap (open_shown st an) made)
 
+-- ## Laws: the same, by the state that was given
+
+module _ (st an : List ℕ) (none : None ≡ state_given st an) where
+  pub call_none : (l : Lent) (c : Call) → refused_short st an l c ≡ call st an l c
+  call_none l c = call_short st an l c (given_none st an none)
+
+  pub ask_none : (l : Lent) (c : Call) → refused_short st an l c ≡ ask st an l c
+  ask_none l c = ask_short st an l c (given_none st an none)
+
+  pub open_none : (m : List ℕ) (n : ℕ) → open_called 35 st m an ≡ open_at st an m n
+  open_none m n = open_short st an m n (given_none st an none)
+
+module _ (st an : List ℕ) (s : State) (some : Some s ≡ state_given st an) (y : Shown) where
+  module _ (l : Lent) (c : Call) (x : Out) (made : x ≡ out_of s l c) where
+    pub call_some : y ≡ step_shown st an x.state x.answer → called_as y x.lent x.filled ≡ call st an l c
+    call_some = call_done st an (given_some st an s some).0 y s l c x (given_some st an s some).1 made
+
+    pub ask_some : y ≡ answer_shown st an x.answer → called_as y x.lent x.filled ≡ ask st an l c
+    ask_some = ask_done st an (given_some st an s some).0 y s l c x (given_some st an s some).1 made
+
+  pub open_some : (m : List ℕ) (n : ℕ) (x : Opened) → x ≡ open' 16384 65536 8 1024 18446744073709551615 real_codec n m → y ≡ step_shown st an x.state x.answer → opened_as y x.mem ≡ open_at st an m n
+  open_some = open_done st an (given_some st an s some).0 y
+
 -- ## Laws: what is told, by the number of the reply
 
 module _ (st an : List ℕ) (a : Answer) (r : Reply) (e : r ≡ reply_of a) where
@@ -181,6 +226,24 @@ module _ (st an : List ℕ) (a : Answer) (r : Reply) (e : r ≡ reply_of a) wher
   answer_stored an' h put =
       let is-put : an' ≡ overwrite 0 (values a) an = put ∙ ap (λ (x : Reply). overwrite 0 x.values an) e in
       rw (ne_eqb (number_of a) 35 (λ q. h (is_number ∙ q))) (λ i. showing (is_number i) st (is-put i))
+
+-- ## Laws: a number is shown alike, whatever it counts
+
+module _ (st an : List ℕ) where
+  pub exported_told : (r : Result ℕ Refusal) → answer_shown st an (answered Size r) ≡ answer_shown st an (answered Exported r)
+  unfolding answer_shown
+  exported_told (Ok n) = refl
+  exported_told (Err r) = refl
+
+  pub checksum_told : (r : Result ℕ Refusal) → answer_shown st an (answered Size r) ≡ answer_shown st an (answered Checksum r)
+  unfolding answer_shown
+  checksum_told (Ok n) = refl
+  checksum_told (Err r) = refl
+
+  pub checksum_shown : (s : State) (r : Result ℕ Refusal) → step_shown st an s (answered Size r) ≡ step_shown st an s (answered Checksum r)
+  unfolding step_shown
+  checksum_shown s (Ok n) = refl
+  checksum_shown s (Err r) = refl
 
 -- ## Laws: what is shown of a state too
 

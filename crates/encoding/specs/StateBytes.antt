@@ -2,6 +2,7 @@
 use Rattle.std.specs.Prelude.{◌≡◌, Bool, true, false, not, eqb, get_or, drop}
 use Rattle.std.proofs.Math.Path.{refl, sym, ap}
 use Rattle.std.proofs.Common.{◌∙◌, subst, arith, drop_at}
+use Rattle.std.specs.Int.{from_bool}
 use Prim.Native.Nat.{ℕ, zero, suc, ◌+◌, ◌*◌, ◌%◌, ◌<◌}
 use mathlib.Core.List.{List, [], ◌∷◌, ◌++◌, append_assoc}
 use Rattle.std.proofs.Math.ListN.{length, length-append}
@@ -10,10 +11,9 @@ use Rattle.memory.specs.Laws.{overwrite_join, overwrite_all}
 use Rattle.memory.specs.Growth.{stable}
 use Rattle.meta.specs.declared.superblock.Superblock.{Superblock}
 use Rattle.meta.specs.Block.{numbers_of, of_numbers}
-use Rattle.words.specs.Words.{word, words, word_at, words_in, word_at_word, length-word, length-words, words_append}
+use Rattle.words.specs.Words.{word, words, words_in, word_at_word, length-word, length-words, words_append}
 use Rattle.meta_load.specs.RoundTrip.{Wide}
 use Rattle.update.specs.declared.Budget.{Budget}
-use Rattle.update.specs.declared.CleanCache.{CleanCache}
 use Rattle.update.specs.declared.Overlay.{Overlay}
 use Rattle.store.specs.declared.State.{State}
 
@@ -22,6 +22,11 @@ use Rattle.store.specs.declared.State.{State}
 abbrev pub flag : Bool → ℕ
 flag true = 1
 flag false = 0
+
+-- what `u64::from` makes of a bool
+pub flag_of : (b : Bool) {n : ℕ} → n ≡ from_bool b → n ≡ flag b
+flag_of true e = e
+flag_of false e = e
 
 abbrev pub budget_numbers : ℕ → Budget → List ℕ
 budget_numbers limited g = limited ∷ g.max_pages ∷ g.max_bytes ∷ g.passed ∷ g.peak_pages ∷ g.peak_bytes ∷ []

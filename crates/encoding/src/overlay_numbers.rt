@@ -2,29 +2,24 @@
 // peak_bytes.
 ghost use Rattle.std.specs.Prelude.{◌≡◌, ◌≤◌, length};
 ghost use Rattle.encoding.specs.StateBytes.{overlay_numbers, overlay_of};
-ghost use Rattle.encoding.specs.StateBytes.{flag as flagOf};
 
 use update::{Budget, CleanCache, Overlay};
 
-pub fn flag(b: bool) -> u64
-    ensures { result ≡ flagOf b }
-{
-    if b { 1 } else { 0 }
-}
+pub const OVERLAY_NUMBERS: usize = 19;
 
+// Not a `From`: neither an overlay nor an array is a type of this crate.
 // Its cache has eight pages, as a caller learns here.
-pub fn numbers_of(o: Overlay) -> [u64; 19]
+pub fn numbers_of(o: Overlay) -> [u64; OVERLAY_NUMBERS]
     ensures { (result ≡ overlay_numbers o) × (length o.cache.pages ≡ 8) }
 {
-    let c = o.cache;
-    let p = c.pages;
+    let p = o.cache.pages;
     let b = o.budget;
     [
         o.base_size,
         o.size,
         o.dirty as u64,
         o.recorded as u64,
-        c.count as u64,
+        o.cache.count as u64,
         p[0],
         p[1],
         p[2],
@@ -33,7 +28,7 @@ pub fn numbers_of(o: Overlay) -> [u64; 19]
         p[5],
         p[6],
         p[7],
-        flag(b.limited),
+        u64::from(b.limited),
         b.max_pages,
         b.max_bytes,
         b.passed,

@@ -1,63 +1,92 @@
 // What a call answered as a number and four values.
-ghost use Rattle.std.specs.Prelude.{◌≡◌, ◌≤◌, length};
-ghost use Rattle.store.specs.declared.Answer.TheVariants.{Size};
-ghost use Rattle.encoding.specs.Called.{reply_of, too_short, showing, step_shown, Looked};
+ghost use Rattle.std.specs.Prelude.{◌≡◌, ◌≤◌, length, IfSome, refl};
+ghost use Rattle.store.specs.Answers.{Answer, answered, Done, Size, Read, Refreshed};
+ghost use Rattle.store.specs.Calls.{number};
+ghost use Rattle.encoding.specs.Called.{reply_of, state_given, showing, step_shown, Looked};
+ghost use Rattle.encoding.specs.Called.{values as valuesOf};
 
-use crate::{overlay_numbers, state_bytes};
-use store::{Answer, Step};
-
-const STATE_BYTES: usize = 336;
+use crate::state_bytes;
+use config::{Numbers, Refusal};
+use store::{ChecksumRefresh, State};
 
 const ANSWER_NUMBERS: usize = 4;
 
-const BUFFER_TOO_SHORT: u64 = 35;
+pub const BUFFER_TOO_SHORT: u64 = 35;
 
-// The number is 0 where a call was accepted; a value is 0 where there is none.
+// What a call answers where it is not refused.
+pub trait Values {
+    ghost answer: { Self → Answer };
+
+    // 0 where there is none.
+    fn values(self) -> [u64; ANSWER_NUMBERS]
+        ensures { result ≡ valuesOf (answer self) };
+
+    ghost accepted: { (x : Self) → number (answer x) ≡ 0 };
+}
+
+impl Values for () {
+    ghost answer = { λ x. Done };
+
+    ghost accepted = { λ x. refl };
+
+    fn values(self) -> [u64; ANSWER_NUMBERS] {
+        [0; ANSWER_NUMBERS]
+    }
+}
+
+// A size, a count of bytes or a checksum.
+impl Values for u64 {
+    ghost answer = { Size };
+
+    ghost accepted = { λ x. refl };
+
+    fn values(self) -> [u64; ANSWER_NUMBERS] {
+        [self, 0, 0, 0]
+    }
+}
+
+impl Values for bool {
+    ghost answer = { Read };
+
+    ghost accepted = { λ x. refl };
+
+    fn values(self) -> [u64; ANSWER_NUMBERS] {
+        [u64::from(self), 0, 0, 0]
+    }
+}
+
+impl Values for ChecksumRefresh {
+    ghost answer = { Refreshed };
+
+    ghost accepted = { λ x. refl };
+
+    fn values(self) -> [u64; ANSWER_NUMBERS] {
+        [
+            u64::from(self.complete),
+            self.checksum,
+            self.scanned_bytes,
+            self.db_size,
+        ]
+    }
+}
+
+// The number is 0 where a call was accepted.
 #[derive(Clone, Copy)]
 struct Reply {
     number: u64,
-    values: [u64; 4],
+    values: [u64; ANSWER_NUMBERS],
 }
 
-// Whether a call can be answered in what it was lent.
-pub fn are_short(state: &[u8], answer: &[u64]) -> bool
-    ensures { result ≡ too_short state.now answer.now }
+fn reply_of<T: Values>(given: Result<T, Refusal>) -> Reply
+    ensures { result ≡ reply_of (answered T.answer given) }
 {
-    if state.len() != STATE_BYTES {
-        return true;
-    }
-    answer.len() < ANSWER_NUMBERS
-}
-
-fn accept(first: u64) -> Reply
-    ensures { result ≡ reply_of (Size first) }
-{
-    Reply {
-        number: 0,
-        values: [first, 0, 0, 0],
-    }
-}
-
-fn reply_of(answer: Answer) -> Reply
-    ensures { result ≡ reply_of answer }
-{
-    match answer {
-        Answer::Done => accept(0),
-        Answer::Size(size) => accept(size),
-        Answer::Read(full) => accept(overlay_numbers::flag(full)),
-        Answer::Exported(n) => accept(n),
-        Answer::Checksum(hash) => accept(hash),
-        Answer::Refreshed(r) => Reply {
+    match given {
+        Ok(value) => Reply {
             number: 0,
-            values: [
-                overlay_numbers::flag(r.complete),
-                r.checksum,
-                r.scanned_bytes,
-                r.db_size,
-            ],
+            values: value.values(),
         },
-        Answer::Refused(refusal) => {
-            let n = refusal.numbers();
+        Err(refusal) => {
+            let n = Numbers::from(refusal);
             Reply {
                 number: n.number,
                 values: [n.first, n.second, 0, 0],
@@ -66,31 +95,45 @@ fn reply_of(answer: Answer) -> Reply
     }
 }
 
+// The state of a call, where the call can be answered in what it was lent.
+pub fn given(state: &[u8], answer: &[u64]) -> Option<State>
+    ensures state { result ≡ state_given state.now answer.now }
+    ensures long { IfSome result (λ s. (length state.now ≡ 336) × (4 ≤ length answer.now)) }
+{
+    if state.len() != state_bytes::STATE_BYTES {
+        return None;
+    }
+    if answer.len() < ANSWER_NUMBERS {
+        return None;
+    }
+    Some(state_bytes::decode(state))
+}
+
 // The answer's values go to a caller, and its number is the result; 35 changes nothing.
-pub fn tell(given: Answer, answer: &mut [u64]) -> u64
+pub fn tell<T: Values>(given: Result<T, Refusal>, answer: &mut [u64]) -> u64
     requires { 4 ≤ length answer.old }
-    ensures { Looked given answer.old result answer.new }
+    ensures { Looked (answered T.answer given) answer.old result answer.new }
 {
     let reply = reply_of(given);
-    if reply.number == BUFFER_TOO_SHORT {
-        return reply.number;
+    if reply.number != BUFFER_TOO_SHORT {
+        memory::write(answer, 0, &reply.values);
     }
-    let values = reply.values;
-    memory::copy_numbers(answer, &values);
     reply.number
 }
 
 // The same of a call that has a state to call with next.
-pub fn show(step: Step, state: &mut [u8], answer: &mut [u64]) -> u64
+pub fn show<T: Values>(
+    s: &State,
+    given: Result<T, Refusal>,
+    state: &mut [u8],
+    answer: &mut [u64],
+) -> u64
     requires { (length state.old ≡ 336) × (4 ≤ length answer.old) }
-    ensures { showing result state.new answer.new ≡ step_shown state.old answer.old step.state step.answer }
+    ensures { showing result state.new answer.new ≡ step_shown state.old answer.old s.now (answered T.answer given) }
 {
-    let given = step.answer;
     let number = tell(given, answer);
-    if number == BUFFER_TOO_SHORT {
-        return number;
+    if number != BUFFER_TOO_SHORT {
+        state_bytes::encode(*s, state);
     }
-    let s = step.state;
-    state_bytes::encode(s, state);
     number
 }

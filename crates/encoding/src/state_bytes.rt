@@ -1,18 +1,26 @@
 // A state in 336 bytes: the count of stable pages, the block's 21 numbers, whether an update is open, and the overlay's 19.
-ghost use Rattle.std.specs.Prelude.{◌≡◌, ◌≤◌, length};
+ghost use Rattle.std.specs.Prelude.{◌≡◌, ◌+◌, ◌*◌, ◌≤◌, length};
+ghost use Rattle.memory.specs.Bytes.{overwrite};
+ghost use Rattle.words.specs.Words.{words};
+ghost use Rattle.meta_load.specs.RoundTrip.{Wide};
 ghost use Rattle.encoding.specs.StateBytes.{state_bytes, state_in};
 
-use crate::{number_bytes, overlay_numbers};
+use crate::overlay_numbers;
 use config::StablePages;
 use meta::Superblock;
 use store::State;
 
+const STATE_NUMBERS: usize = 42;
+
+pub const STATE_BYTES: usize = STATE_NUMBERS * 8;
+
 // Any bytes are a state; a mark of an open update that is not 0 is one.
+// Not a `From`: neither a state nor its bytes are a type of this crate.
 pub fn decode(state: &[u8]) -> State
     requires { 336 ≤ length state.now }
     ensures { result ≡ state_in state.now }
 {
-    let n = number_bytes::read_words(state);
+    let n: [u64; STATE_NUMBERS] = words::read_words(state, 0);
     State {
         count: StablePages(n[0]),
         block: Superblock::of_numbers(&n[1..]),
@@ -21,15 +29,20 @@ pub fn decode(state: &[u8]) -> State
     }
 }
 
+// The numbers of a slice are numbers of 64 bits, as a caller learns here.
+fn put(bytes: &mut [u8], at: usize, numbers: &[u64])
+    requires { at + length numbers.now * 8 ≤ length bytes.old }
+    ensures { (bytes.new ≡ overwrite at (words numbers.now) bytes.old) × Wide numbers.now }
+{
+    words::write_words(bytes, at, numbers);
+}
+
 pub fn encode(s: State, state: &mut [u8])
     requires { length state.old ≡ 336 }
     ensures { (state.new ≡ state_bytes s) × (state_in state.new ≡ s) }
 {
-    let count = s.count;
-    let block = s.block;
-    let overlay = s.overlay;
-    number_bytes::write_words(state, 0, &[count.0]);
-    number_bytes::write_words(state, 8, &block.numbers());
-    number_bytes::write_words(state, 176, &[overlay_numbers::flag(s.updating)]);
-    number_bytes::write_words(state, 184, &overlay_numbers::numbers_of(overlay));
+    put(state, 0, &[s.count.0]);
+    put(state, 8, &s.block.numbers());
+    put(state, 176, &[u64::from(s.updating)]);
+    put(state, 184, &overlay_numbers::numbers_of(s.overlay));
 }

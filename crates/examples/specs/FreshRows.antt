@@ -2,7 +2,7 @@
 use Rattle.std.specs.Prelude.{◌≡◌, refl, ℕ, zero, suc, ◌+◌, ◌*◌, ◌/◌, ◌≤◌, ◌<◌, false, not, List, [], ◌∷◌, take}
 use Rattle.std.proofs.Common.{ap, arith}
 use Rattle.config.specs.Pages.{count}
-use Rattle.memory.specs.Bytes.{zeros, overwrite, resize}
+use Rattle.memory.specs.Bytes.{zeros, overwrite, resize, filled}
 use Rattle.memory.specs.Growth.{grow_to as growMemory, required as requiredPages}
 use Rattle.words.specs.Words.{word, word_at}
 use Rattle.fnv.specs.Fnv.{mixed, step, fold, fnv1a64}
@@ -128,7 +128,7 @@ first : trace (opened 2) (begin false 0 0 ∷ write 16384 (7 ∷ []) ∷ commit 
     ∷ seen 0 16385 [] [] (0 ∷ 1 ∷ []) 2 []
     ∷ seen 0 16385 [] [] (0 ∷ 1 ∷ []) 2 (0 ∷ [])
     ∷ []
-unfolding count zeros overwrite resize growMemory requiredPages normalized word word_at mixed step fold fnv1a64 header header_of block_bytes encode fields_in decode encoded_len prefix checksum_of seal store_in freshBlock block_runs checksum_in judgeBlock loadBlock image_count image_numbers within merge insert add around piece remove flatRuns put refill tabulate add_number_if span grown_numbers image_byte image_page push_run raw over_byte budget_bytes raised touch blank copy stretch patch finish grow grow_to chop tail truncated whole_page over_write written fresh look_up sized passing marked try_touch try_patch try_finish try_grow try_grow_to try_tail try_chop try_truncate try_write frame_count entry_count wiped cached short_buffers view overlay_of put_back stored real_codec importing stale refreshing marks after_commit short store_plan no_overlay image_bytes unchanged planned_runs commit_over store outside open_image closing open' additions lent_fresh opened
+unfolding count filled overwrite resize growMemory requiredPages normalized word word_at mixed step fold fnv1a64 header header_of block_bytes encode fields_in decode encoded_len prefix checksum_of seal store_in freshBlock block_runs checksum_in judgeBlock loadBlock image_count image_numbers within merge insert add around piece remove flatRuns put refill tabulate add_number_if span grown_numbers image_byte image_page push_run raw over_byte budget_bytes raised touch blank copy stretch patch finish grow grow_to chop tail truncated whole_page over_write written fresh look_up sized passing marked try_touch try_patch try_finish try_grow try_grow_to try_tail try_chop try_truncate try_write frame_count entry_count wiped cached short_buffers view overlay_of put_back stored real_codec importing stale refreshing marks after_commit short store_plan no_overlay image_bytes unchanged planned_runs commit_over store outside open_image closing open' additions lent_fresh opened
 first = refl
 
 row1 : look (after (opened 2) (begin false 0 0 ∷ write 16384 (7 ∷ []) ∷ [])) ≡ seen 0 16385 (0 ∷ 2 ∷ []) (1 ∷ []) [] 1 []
@@ -145,23 +145,23 @@ row5 = ap (seen_at 5) first
 
 -- the others are computed each for itself
 row3 : look (after (opened 2) (write 0 (7 ∷ []) ∷ [])) ≡ (seen 0 1 [] [] [] 2 [])
-unfolding count zeros overwrite resize growMemory requiredPages normalized word word_at mixed step fold fnv1a64 header header_of block_bytes encode fields_in decode encoded_len prefix checksum_of seal store_in freshBlock block_runs checksum_in judgeBlock loadBlock image_count image_numbers within merge insert add around piece remove flatRuns put refill tabulate add_number_if span grown_numbers image_byte image_page push_run raw over_byte budget_bytes raised touch blank copy stretch patch finish grow grow_to chop tail truncated whole_page over_write written fresh look_up sized passing marked try_touch try_patch try_finish try_grow try_grow_to try_tail try_chop try_truncate try_write frame_count entry_count wiped cached short_buffers view overlay_of put_back stored real_codec importing stale refreshing marks after_commit short store_plan no_overlay image_bytes unchanged planned_runs commit_over store outside open_image closing open' additions lent_fresh opened
+unfolding count filled overwrite resize growMemory requiredPages normalized word word_at mixed step fold fnv1a64 header header_of block_bytes encode fields_in decode encoded_len prefix checksum_of seal store_in freshBlock block_runs checksum_in judgeBlock loadBlock image_count image_numbers within merge insert add around piece remove flatRuns put refill tabulate add_number_if span grown_numbers image_byte image_page push_run raw over_byte budget_bytes raised touch blank copy stretch patch finish grow grow_to chop tail truncated whole_page over_write written fresh look_up sized passing marked try_touch try_patch try_finish try_grow try_grow_to try_tail try_chop try_truncate try_write frame_count entry_count wiped cached short_buffers view overlay_of put_back stored real_codec importing stale refreshing marks after_commit short store_plan no_overlay image_bytes unchanged planned_runs commit_over store outside open_image closing open' additions lent_fresh opened
 row3 = refl
 
 row6 : look (after (opened 1) (truncate 18446744073709486080 ∷ [])) ≡ (seen 20 0 [] [] [] 1 [])
-unfolding count zeros overwrite resize growMemory requiredPages normalized word word_at mixed step fold fnv1a64 header header_of block_bytes encode fields_in decode encoded_len prefix checksum_of seal store_in freshBlock block_runs checksum_in judgeBlock loadBlock image_count image_numbers within merge insert add around piece remove flatRuns put refill tabulate add_number_if span grown_numbers image_byte image_page push_run raw over_byte budget_bytes raised touch blank copy stretch patch finish grow grow_to chop tail truncated whole_page over_write written fresh look_up sized passing marked try_touch try_patch try_finish try_grow try_grow_to try_tail try_chop try_truncate try_write frame_count entry_count wiped cached short_buffers view overlay_of put_back stored real_codec importing stale refreshing marks after_commit short store_plan no_overlay image_bytes unchanged planned_runs commit_over store outside open_image closing open' additions lent_fresh opened
+unfolding count filled overwrite resize growMemory requiredPages normalized word word_at mixed step fold fnv1a64 header header_of block_bytes encode fields_in decode encoded_len prefix checksum_of seal store_in freshBlock block_runs checksum_in judgeBlock loadBlock image_count image_numbers within merge insert add around piece remove flatRuns put refill tabulate add_number_if span grown_numbers image_byte image_page push_run raw over_byte budget_bytes raised touch blank copy stretch patch finish grow grow_to chop tail truncated whole_page over_write written fresh look_up sized passing marked try_touch try_patch try_finish try_grow try_grow_to try_tail try_chop try_truncate try_write frame_count entry_count wiped cached short_buffers view overlay_of put_back stored real_codec importing stale refreshing marks after_commit short store_plan no_overlay image_bytes unchanged planned_runs commit_over store outside open_image closing open' additions lent_fresh opened
 row6 = refl
 
 row7 : look (after (opened 1) (truncate 18446744073709486079 ∷ [])) ≡ (seen 20 0 [] [] [] 1 [])
-unfolding count zeros overwrite resize growMemory requiredPages normalized word word_at mixed step fold fnv1a64 header header_of block_bytes encode fields_in decode encoded_len prefix checksum_of seal store_in freshBlock block_runs checksum_in judgeBlock loadBlock image_count image_numbers within merge insert add around piece remove flatRuns put refill tabulate add_number_if span grown_numbers image_byte image_page push_run raw over_byte budget_bytes raised touch blank copy stretch patch finish grow grow_to chop tail truncated whole_page over_write written fresh look_up sized passing marked try_touch try_patch try_finish try_grow try_grow_to try_tail try_chop try_truncate try_write frame_count entry_count wiped cached short_buffers view overlay_of put_back stored real_codec importing stale refreshing marks after_commit short store_plan no_overlay image_bytes unchanged planned_runs commit_over store outside open_image closing open' additions lent_fresh opened
+unfolding count filled overwrite resize growMemory requiredPages normalized word word_at mixed step fold fnv1a64 header header_of block_bytes encode fields_in decode encoded_len prefix checksum_of seal store_in freshBlock block_runs checksum_in judgeBlock loadBlock image_count image_numbers within merge insert add around piece remove flatRuns put refill tabulate add_number_if span grown_numbers image_byte image_page push_run raw over_byte budget_bytes raised touch blank copy stretch patch finish grow grow_to chop tail truncated whole_page over_write written fresh look_up sized passing marked try_touch try_patch try_finish try_grow try_grow_to try_tail try_chop try_truncate try_write frame_count entry_count wiped cached short_buffers view overlay_of put_back stored real_codec importing stale refreshing marks after_commit short store_plan no_overlay image_bytes unchanged planned_runs commit_over store outside open_image closing open' additions lent_fresh opened
 row7 = refl
 
 row8 : look (after (opened 1) (truncate 18446744073709469696 ∷ [])) ≡ (seen 32 0 [] [] [] 1 [])
-unfolding count zeros overwrite resize growMemory requiredPages normalized word word_at mixed step fold fnv1a64 header header_of block_bytes encode fields_in decode encoded_len prefix checksum_of seal store_in freshBlock block_runs checksum_in judgeBlock loadBlock image_count image_numbers within merge insert add around piece remove flatRuns put refill tabulate add_number_if span grown_numbers image_byte image_page push_run raw over_byte budget_bytes raised touch blank copy stretch patch finish grow grow_to chop tail truncated whole_page over_write written fresh look_up sized passing marked try_touch try_patch try_finish try_grow try_grow_to try_tail try_chop try_truncate try_write frame_count entry_count wiped cached short_buffers view overlay_of put_back stored real_codec importing stale refreshing marks after_commit short store_plan no_overlay image_bytes unchanged planned_runs commit_over store outside open_image closing open' additions lent_fresh opened
+unfolding count filled overwrite resize growMemory requiredPages normalized word word_at mixed step fold fnv1a64 header header_of block_bytes encode fields_in decode encoded_len prefix checksum_of seal store_in freshBlock block_runs checksum_in judgeBlock loadBlock image_count image_numbers within merge insert add around piece remove flatRuns put refill tabulate add_number_if span grown_numbers image_byte image_page push_run raw over_byte budget_bytes raised touch blank copy stretch patch finish grow grow_to chop tail truncated whole_page over_write written fresh look_up sized passing marked try_touch try_patch try_finish try_grow try_grow_to try_tail try_chop try_truncate try_write frame_count entry_count wiped cached short_buffers view overlay_of put_back stored real_codec importing stale refreshing marks after_commit short store_plan no_overlay image_bytes unchanged planned_runs commit_over store outside open_image closing open' additions lent_fresh opened
 row8 = refl
 
 row9 : look (after (opened 1) (write 18446744073709551615 [] ∷ [])) ≡ (seen 0 0 [] [] [] 1 [])
-unfolding count zeros overwrite resize growMemory requiredPages normalized word word_at mixed step fold fnv1a64 header header_of block_bytes encode fields_in decode encoded_len prefix checksum_of seal store_in freshBlock block_runs checksum_in judgeBlock loadBlock image_count image_numbers within merge insert add around piece remove flatRuns put refill tabulate add_number_if span grown_numbers image_byte image_page push_run raw over_byte budget_bytes raised touch blank copy stretch patch finish grow grow_to chop tail truncated whole_page over_write written fresh look_up sized passing marked try_touch try_patch try_finish try_grow try_grow_to try_tail try_chop try_truncate try_write frame_count entry_count wiped cached short_buffers view overlay_of put_back stored real_codec importing stale refreshing marks after_commit short store_plan no_overlay image_bytes unchanged planned_runs commit_over store outside open_image closing open' additions lent_fresh opened
+unfolding count filled overwrite resize growMemory requiredPages normalized word word_at mixed step fold fnv1a64 header header_of block_bytes encode fields_in decode encoded_len prefix checksum_of seal store_in freshBlock block_runs checksum_in judgeBlock loadBlock image_count image_numbers within merge insert add around piece remove flatRuns put refill tabulate add_number_if span grown_numbers image_byte image_page push_run raw over_byte budget_bytes raised touch blank copy stretch patch finish grow grow_to chop tail truncated whole_page over_write written fresh look_up sized passing marked try_touch try_patch try_finish try_grow try_grow_to try_tail try_chop try_truncate try_write frame_count entry_count wiped cached short_buffers view overlay_of put_back stored real_codec importing stale refreshing marks after_commit short store_plan no_overlay image_bytes unchanged planned_runs commit_over store outside open_image closing open' additions lent_fresh opened
 row9 = refl
 
 -- 20 "by its last page": base + size itself still fits, the end of the page that it ends in does not
@@ -170,7 +170,7 @@ pub record ByLastPage (base size : ℕ) : Type 0 where
   pub page_does_not : 18446744073709551615 < base + (size / 16384 + 1) * 16384
 
 pub last_page : ByLastPage (opened 1).state.block.db_base_offset 18446744073709486079
-unfolding count zeros overwrite resize growMemory requiredPages normalized word word_at mixed step fold fnv1a64 header header_of block_bytes encode fields_in decode encoded_len prefix checksum_of seal store_in freshBlock block_runs checksum_in judgeBlock loadBlock image_count image_numbers within merge insert add around piece remove flatRuns put refill tabulate add_number_if span grown_numbers image_byte image_page push_run raw over_byte budget_bytes raised touch blank copy stretch patch finish grow grow_to chop tail truncated whole_page over_write written fresh look_up sized passing marked try_touch try_patch try_finish try_grow try_grow_to try_tail try_chop try_truncate try_write frame_count entry_count wiped cached short_buffers view overlay_of put_back stored real_codec importing stale refreshing marks after_commit short store_plan no_overlay image_bytes unchanged planned_runs commit_over store outside open_image closing open' additions lent_fresh opened
+unfolding count filled overwrite resize growMemory requiredPages normalized word word_at mixed step fold fnv1a64 header header_of block_bytes encode fields_in decode encoded_len prefix checksum_of seal store_in freshBlock block_runs checksum_in judgeBlock loadBlock image_count image_numbers within merge insert add around piece remove flatRuns put refill tabulate add_number_if span grown_numbers image_byte image_page push_run raw over_byte budget_bytes raised touch blank copy stretch patch finish grow grow_to chop tail truncated whole_page over_write written fresh look_up sized passing marked try_touch try_patch try_finish try_grow try_grow_to try_tail try_chop try_truncate try_write frame_count entry_count wiped cached short_buffers view overlay_of put_back stored real_codec importing stale refreshing marks after_commit short store_plan no_overlay image_bytes unchanged planned_runs commit_over store outside open_image closing open' additions lent_fresh opened
 last_page = record { size_fits = omega arith; page_does_not = omega arith }
 
 pub fresh_right : Right fresh_rows

@@ -1,5 +1,5 @@
 -- The rows on 1,024 runs: of any memory that is long enough, by laws. Each starts from what opening answers.
-use Rattle.std.specs.Prelude.{◌≡◌, Bool, true, not, length, get_or}
+use Rattle.std.specs.Prelude.{◌≡◌, Bool, true, not, length, get_or, Ok}
 use Rattle.std.proofs.Math.Path.{refl, sym, ap}
 use Rattle.std.proofs.Common.{◌∙◌, arith}
 use Prim.Native.Nat.{ℕ, zero, suc, ◌+◌, ◌*◌, ◌≤◌, ◌<◌}
@@ -8,14 +8,13 @@ use mathlib.Core.List.{List, [], ◌∷◌}
 use borrow.Author.Tests.{le-ltb}
 use Rattle.config.specs.Pages.{count}
 use Rattle.config.specs.declared.refusal.Refusal.TheVariants.{ImageOutOfMemory, BufferTooShort}
-use Rattle.memory.specs.Bytes.{zeros}
+use Rattle.memory.specs.Bytes.{zeros, filled}
 use Rattle.memory.specs.Laws.{length-zeros}
 use Rattle.memory.specs.Growth.{grow_to as growMemory, required as requiredPages}
 use Rattle.meta.specs.declared.superblock.Superblock.{Superblock}
 use Rattle.meta.specs.declared.ZeroExtent.{ZeroExtent}
 use Rattle.meta.specs.Runs.{run, runs_of as pairsOf, numbers_of, normalized}
 use Rattle.meta.specs.Block.{magic, of_fields, fields_of}
-use Rattle.meta_load.specs.declared.Loaded.TheVariants.{Block}
 use Rattle.meta_load.specs.RoundTrip.{Wide, Fits as FitsBlock, stored_accepted}
 use Rattle.meta_load.specs.Load.{load as loadBlock}
 use Rattle.runs.specs.Sets.{within, merge, insert, add, around, piece, remove}
@@ -28,7 +27,7 @@ use Rattle.update.specs.PageLaws.{EndsBy}
 use Rattle.update.specs.Update.{Over, accepted, push_run, raw, budget_bytes, raised, touch, copy, stretch, patch, finish, grow, grow_to, chop, tail, truncated, whole_page, over_write, written, fresh, look_up, Tried, sized, passing, marked, try_touch, try_patch, try_finish, try_grow, try_grow_to, try_tail, try_chop, try_truncate, try_write}
 use Rattle.update.specs.Buffers.{frame_count, entry_count, cached, short_buffers, view, overlay_of, put_back}
 use Rattle.store.specs.declared.State.{State}
-use Rattle.store.specs.declared.Answer.TheVariants.{Done}
+use Rattle.store.specs.Answers.{Done}
 use Rattle.store.specs.Codec.{sealed, stored, real_codec, real_stored, real_sealed}
 use Rattle.store.specs.Blocks.{importing, stale, refreshing, marks, after_commit}
 use Rattle.store.specs.Calls.{Call, write, truncate, Uses, uses, these, Lent, Out, out, number, short, update}
@@ -125,12 +124,12 @@ module _ (pages : ℕ) (rs : List ZeroExtent) (few : length rs ≡ 1024) (sorted
   unfolding block_of
   fits_block = record { magic = omega arith; version = omega arith; size = omega arith; fields = widths (fields_of (block_of pages)) (omega arith) }
 
-  loads : real_codec.load (lent_runs pages rs n).mem ≡ Block (sealed real_codec (block_of pages) rs)
+  loads : real_codec.load (lent_runs pages rs n).mem ≡ Ok (sealed real_codec (block_of pages) rs)
   unfolding lent_runs real_codec block_of
   loads =
       ap loadBlock (real_stored (block_of pages) rs (zeros n))
       ∙ stored_accepted (block_of pages) (numbers_of rs) (zeros n) fits_block (omega (arith, length-zeros n)) (omega arith) (length-numbers rs ∙ ap (λ (j : ℕ). j * 2) few) wide refl refl (ap normalized (runs_again rs) ∙ sorted)
-      ∙ ap Block (sym (real_sealed (block_of pages) rs))
+      ∙ ap Ok (sym (real_sealed (block_of pages) rs))
 
   inside : outside 16384 65536 8 1024 18446744073709551615 real_codec 516 (sealed real_codec (block_of pages) rs) ≡ false
   unfolding outside block_of importing
@@ -167,7 +166,7 @@ module _ (pages : ℕ) (rs : List ZeroExtent) (few : length rs ≡ 1024) (sorted
 
   -- 35 does not arise for a call that is lent everything
   not_short : (c : Call) → uses c ≡ these true true true → short 16384 65536 8 1024 (state_runs pages rs) (lent_runs pages rs n) c ≡ false
-  unfolding short state_runs lent_runs frame_count zeros
+  unfolding short state_runs lent_runs frame_count filled
   not_short c e = rw (e, mem_long, le-ltb n (516 * 65536) long)
 
   done : (c : Call) → uses c ≡ these true true true → (real (state_runs pages rs) (lent_runs pages rs n) c).answer ≡ (act 16384 65536 8 1024 18446744073709551615 real_codec (state_runs pages rs) (lent_runs pages rs n) c).answer
@@ -199,7 +198,7 @@ module _ (n : ℕ) (long : 516 * 65536 ≤ n) where
 
   grown_tried : try_truncate 16384 18446744073709551615 (frame_count 16384 l1.bufs) (entry_count l1.bufs) (image 16384 65536 8 1024 18446744073709551615 real_codec s1.block l1.mem) (2050 * 16384) (fresh 16384 s1.block.db_size (budget_of false 0 0))
       ≡ accepted (over_of (2050 * 16384) [] (run 2049 2050 ∷ []))
-  unfolding count growMemory requiredPages normalized within merge insert add around piece remove flatRuns add_number_if span grown_numbers push_run budget_bytes raised touch stretch patch finish grow grow_to chop tail truncated whole_page over_write written fresh look_up sized passing marked try_touch try_patch try_finish try_grow try_grow_to try_tail try_chop try_truncate try_write frame_count entry_count cached short_buffers view overlay_of put_back importing stale refreshing marks after_commit short store_plan no_overlay image_bytes unchanged planned_runs commit_over store additions zeros lent_runs state_runs block_of
+  unfolding count growMemory requiredPages normalized within merge insert add around piece remove flatRuns add_number_if span grown_numbers push_run budget_bytes raised touch stretch patch finish grow grow_to chop tail truncated whole_page over_write written fresh look_up sized passing marked try_touch try_patch try_finish try_grow try_grow_to try_tail try_chop try_truncate try_write frame_count entry_count cached short_buffers view overlay_of put_back importing stale refreshing marks after_commit short store_plan no_overlay image_bytes unchanged planned_runs commit_over store additions filled lent_runs state_runs block_of
   grown_tried = refl
 
   grown_plan : planned_runs 16384 65536 8 1024 18446744073709551615 real_codec s1 l1.mem (over_of (2050 * 16384) [] (run 2049 2050 ∷ [])) ≡ too_many
@@ -228,7 +227,7 @@ module _ (n : ℕ) (long : 516 * 65536 ≤ n) where
     over6 = over_of (2050 * 16384) (record { number = 2049; bytes = bytes6 } ∷ []) (run 2049 2050 ∷ [])
 
     page_tried : try_write 16384 18446744073709551615 (frame_count 16384 l1.bufs) (entry_count l1.bufs) (image 16384 65536 8 1024 18446744073709551615 real_codec s1.block l1.mem) (2049 * 16384) bs (fresh 16384 s1.block.db_size (budget_of false 0 0)) ≡ accepted over6
-    unfolding count growMemory requiredPages normalized within merge insert add around piece remove flatRuns add_number_if span grown_numbers push_run budget_bytes raised touch stretch patch finish grow grow_to chop tail truncated whole_page over_write written fresh look_up sized passing marked try_touch try_patch try_finish try_grow try_grow_to try_tail try_chop try_truncate try_write frame_count entry_count cached short_buffers view overlay_of put_back importing stale refreshing marks after_commit short store_plan no_overlay image_bytes unchanged planned_runs commit_over store additions zeros lent_runs state_runs block_of
+    unfolding count growMemory requiredPages normalized within merge insert add around piece remove flatRuns add_number_if span grown_numbers push_run budget_bytes raised touch stretch patch finish grow grow_to chop tail truncated whole_page over_write written fresh look_up sized passing marked try_touch try_patch try_finish try_grow try_grow_to try_tail try_chop try_truncate try_write frame_count entry_count cached short_buffers view overlay_of put_back importing stale refreshing marks after_commit short store_plan no_overlay image_bytes unchanged planned_runs commit_over store additions filled lent_runs state_runs block_of
     page_tried = rw (try_write, page)
 
     page_plan : planned_runs 16384 65536 8 1024 18446744073709551615 real_codec s1 l1.mem over6 ≡ kept (single 1 1024)
@@ -277,7 +276,7 @@ module _ (n : ℕ) (long : 516 * 65536 ≤ n) where
   over7 = over_of (2060 * 16384) (record { number = 2; bytes = bytes7 } ∷ []) []
 
   split_tried : try_write 16384 18446744073709551615 (frame_count 16384 l7.bufs) (entry_count l7.bufs) (image 16384 65536 8 1024 18446744073709551615 real_codec s7.block l7.mem) (2 * 16384) (7 ∷ []) (fresh 16384 s7.block.db_size (budget_of false 0 0)) ≡ accepted over7
-  unfolding count growMemory requiredPages normalized within merge insert add around piece remove flatRuns add_number_if span grown_numbers push_run budget_bytes raised touch stretch patch finish grow grow_to chop tail truncated whole_page over_write written fresh look_up sized passing marked try_touch try_patch try_finish try_grow try_grow_to try_tail try_chop try_truncate try_write frame_count entry_count cached short_buffers view overlay_of put_back importing stale refreshing marks after_commit short store_plan no_overlay image_bytes unchanged planned_runs commit_over store additions zeros lent_runs state_runs block_of
+  unfolding count growMemory requiredPages normalized within merge insert add around piece remove flatRuns add_number_if span grown_numbers push_run budget_bytes raised touch stretch patch finish grow grow_to chop tail truncated whole_page over_write written fresh look_up sized passing marked try_touch try_patch try_finish try_grow try_grow_to try_tail try_chop try_truncate try_write frame_count entry_count cached short_buffers view overlay_of put_back importing stale refreshing marks after_commit short store_plan no_overlay image_bytes unchanged planned_runs commit_over store additions filled lent_runs state_runs block_of
   split_tried = refl
 
   split_plan : planned_runs 16384 65536 8 1024 18446744073709551615 real_codec s7 l7.mem over7 ≡ too_many

@@ -1,11 +1,12 @@
 -- The laws of the plan: that it depends on the set alone, and what each turn of the code makes of it.
-use Rattle.std.specs.Prelude.{ℕ, suc, ◌+◌, ◌*◌, ◌≤◌, ◌<◌, min, ◌≡◌, Bool, true, false, ◌&&◌, ◌||◌, get_or, take, drop, ltb, leb, eqb}
+use Rattle.std.specs.Prelude.{ℕ, suc, ◌+◌, ◌*◌, ◌≤◌, ◌<◌, min, ◌≡◌, Bool, true, false, ◌&&◌, ◌||◌, get_or, take, drop, ltb, leb, eqb, Ok, Err, count_by, filter}
 use Rattle.std.proofs.Math.Path.{refl, sym, ap}
 use Rattle.std.proofs.Common.{◌∙◌, arith, length-take, drop_of_length-le, drop-cons, get_or-take, take_all}
 use Rattle.std.proofs.Math.Bool.{not, and-true, and-false, or_assoc, or_comm}
 use mathlib.Core.List.{List, [], ◌∷◌, ◌++◌}
 use Rattle.std.proofs.Math.ListN.{length}
 use Rattle.std.proofs.Math.Seq.{take-length}
+use Rattle.std.proofs.lemmas.List.Sums.{length-filter}
 use borrow.Author.Tests.{ltb-true, ltb-false, leb-true, leb-false, lt-ltb, le-ltb, le-leb, lt-leb}
 use Rattle.config.specs.Pages.{count}
 use Rattle.config.specs.declared.refusal.Refusal.{Refusal}
@@ -16,11 +17,11 @@ use Rattle.runs.specs.Sets.{within, covers, add, maximal, without}
 use Rattle.runs.specs.SetLaws.{split, within_has, maximal_covers, maximal_alike, maximal_self, maximal_again, maximal_empty, maximal_normalized, without_alike, without_covers}
 use Rattle.runs.specs.Flat.{runs_in, out, held, padded, laid, at, upto}
 use Rattle.runs.specs.FlatLaws.{upto_more, upto_none, length-runs_in, held_count, held_runs, held_normalized, add_count, remove_count, laid_cleared, laid_runs}
+use Rattle.runs.specs.Lists.{rest_more, rest_none}
 use Rattle.extents.specs.Plan.{Answer, too_many, kept, pick, below, additions, add_one, add_each, remove_each, remain, plan}
 use Rattle.extents.specs.Outcome.{Outcome, outcome, planned}
 use Rattle.extents.specs.Steps.{norm, told, Ready, Added, Left}
-use Rattle.extents.specs.declared.Planned.{Planned}
-use Rattle.extents.specs.declared.Planned.TheVariants.{Runs, Refused}
+use Rattle.extents.specs.Outcome.{Planned}
 
 pub told_kept : (limit r : ℕ) (w : List ℕ) → r ≤ limit → told limit r w ≡ kept (runs_in r w)
 unfolding told
@@ -144,6 +145,14 @@ module _ (limit : ℕ) (v : List ℕ) (i n : ℕ) where
   pub record_last : (a : Answer) → n ≤ i → add_each limit (upto v i n) a ≡ a
   record_last a h = rw (upto_none v i n h)
 
+-- run i of a list is added
+module _ (limit : ℕ) (l : List ZeroExtent) (i : ℕ) where
+  pub run_added : (x : ZeroExtent) (a b : Answer) → i < length l → x ≡ get_or l i (run 0 0) → b ≡ norm (add_one limit x a) → norm (add_each limit (drop (i + 1) l) b) ≡ norm (add_each limit (drop i l) a)
+  run_added x a b h e g = rw (rest_more l i x h e, g) (sym (each_norm limit (drop (i + 1) l) (add_one limit x a)))
+
+  pub all_added : (a : Answer) → length l ≤ i → add_each limit (drop i l) a ≡ a
+  all_added a h = rw (rest_none l i h)
+
 -- ## Removals
 
 remove_alike : (ps : List ℕ) (s t : List ZeroExtent) → ((q : ℕ) → covers s q ≡ covers t q) → (q : ℕ) → covers (remove_each ps s) q ≡ covers (remove_each ps t) q
@@ -204,6 +213,23 @@ module _ (final : ℕ) (v : List ℕ) (d i : ℕ) where
 
   pub tally_last : d ≤ i → length (below final (drop i (take d v))) ≡ 0
   tally_last h = rw (no_page v d i h)
+
+-- of a list of pages that are all dirty
+module _ (final : ℕ) (ps : List ℕ) (i : ℕ) where
+  pub page_removed : (s k : List ZeroExtent) → i < length ps → k ≡ maximal (remove_each (below final (get_or ps i 0 ∷ [])) s)
+      → maximal (remove_each (below final (drop (i + 1) ps)) k) ≡ maximal (remove_each (below final (drop i ps)) s)
+  page_removed s k h e = rw (take-length ps) at (pages_step final ps (length ps) i s k (omega arith) h e)
+
+  pub all_removed : (s : List ZeroExtent) → length ps ≤ i → normalized s ≡ true → maximal (remove_each (below final (drop i ps)) s) ≡ s
+  all_removed s h f = rw (take-length ps) at (pages_last final ps (length ps) i s h f)
+
+below_filtered : (final : ℕ) (ps : List ℕ) → filter (λ (p : ℕ). ltb p final) ps ≡ below final ps
+below_filtered final [] = refl
+below_filtered final (p ∷ ps) = let r : filter (λ (q : ℕ). ltb q final) ps ≡ below final ps = below_filtered final ps in
+    split (ltb p final) (λ t. rw (t, r)) (λ f. rw (f, r))
+
+pub below_counted : (final : ℕ) (ps : List ℕ) → count_by (λ (p : ℕ). ltb p final) ps ≡ length (below final ps)
+below_counted final ps = sym (length-filter (λ (p : ℕ). ltb p final) ps) ∙ ap length (below_filtered final ps)
 
 -- ## The whole
 
@@ -282,28 +308,28 @@ tally_most end d v = omega (arith, below_most end (take d v), length-take d v)
 -- ## The answer and the list at the end
 
 abbrev number : Planned → ℕ
-number (Runs k) = 0
-number (Refused r) = 1
+number (Ok k) = 0
+number (Err r) = 1
 
-runs_same : {k m : ℕ} → Runs k ≡ Runs m → k ≡ m
+runs_same : {k m : ℕ} → ◌≡◌ {A = Planned} (Ok k) (Ok m) → k ≡ m
 runs_same e = cc
 
-refused_same : {r q : Refusal} → Refused r ≡ Refused q → r ≡ q
+refused_same : {r q : Refusal} → ◌≡◌ {A = Planned} (Err r) (Err q) → r ≡ q
 refused_same e = cc
 
 module _ (n r : ℕ) (w : List ℕ) where
-  pub ends_not : 1024 < r → planned n (told 1024 r w) ≡ outcome (Refused ZeroExtentLimitExceeded) (padded n (take 0 w))
+  pub ends_not : 1024 < r → planned n (told 1024 r w) ≡ outcome (Err ZeroExtentLimitExceeded) (padded n (take 0 w))
   unfolding planned
   ends_not h = rw (told_not 1024 r w h)
 
-  pub ends_runs : r ≤ 1024 → r * 2 ≤ length w → planned n (told 1024 r w) ≡ outcome (Runs r) (padded n (take (r * 2) w))
+  pub ends_runs : r ≤ 1024 → r * 2 ≤ length w → planned n (told 1024 r w) ≡ outcome (Ok r) (padded n (take (r * 2) w))
   unfolding planned laid
   ends_runs h k =
       let e : laid n (runs_in r w) ≡ out (padded n (take (r * 2) w)) r = sym (laid_cleared n r w (runs_in r w) k refl) in
-      rw (told_kept 1024 r w h) (λ i. outcome (Runs (e i).count) (e i).work)
+      rw (told_kept 1024 r w h) (λ i. outcome (Ok (e i).count) (e i).work)
 
 -- and what a caller learns from them
-pub planned_runs_lem : (n k : ℕ) (w : List ℕ) (a : Answer) → outcome (Runs k) w ≡ planned n a → a ≡ kept (runs_in k w)
+pub planned_runs_lem : (n k : ℕ) (w : List ℕ) (a : Answer) → outcome (Ok k) w ≡ planned n a → a ≡ kept (runs_in k w)
 unfolding planned
 planned_runs_lem n k w too_many e = let z : ◌≡◌ {A = ℕ} 0 1 = ap (λ (o : Outcome). number o.answer) e in absurd (omega arith)
 planned_runs_lem n k w (kept l) e =
@@ -311,7 +337,7 @@ planned_runs_lem n k w (kept l) e =
     let f : w ≡ padded n (numbers_of l) = ap (λ (o : Outcome). o.work) e in
     ap kept (sym (rw (f, c) (laid_runs n l)))
 
-pub planned_not : (n : ℕ) (r : Refusal) (w : List ℕ) (a : Answer) → outcome (Refused r) w ≡ planned n a → (a ≡ too_many) × (r ≡ ZeroExtentLimitExceeded) × (w ≡ padded n [])
+pub planned_not : (n : ℕ) (r : Refusal) (w : List ℕ) (a : Answer) → outcome (Err r) w ≡ planned n a → (a ≡ too_many) × (r ≡ ZeroExtentLimitExceeded) × (w ≡ padded n [])
 unfolding planned
 planned_not n r w too_many e = (refl, refused_same (ap (λ (o : Outcome). o.answer) e), ap (λ (o : Outcome). o.work) e)
 planned_not n r w (kept l) e = let z : ◌≡◌ {A = ℕ} 1 0 = ap (λ (o : Outcome). number o.answer) e in absurd (omega arith)

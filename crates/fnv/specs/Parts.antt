@@ -1,11 +1,20 @@
 -- The hash over a list part by part.
-use Rattle.std.specs.Prelude.{◌≡◌, ℕ, ◌+◌, ◌-◌, ◌<◌, ◌≤◌, List, [], ◌∷◌, ◌++◌, length, take, drop, slice_index}
-use Rattle.std.proofs.Common.{sym, ap, ◌∙◌, add-one, arith, length-drop, take-add, take-suc, take_all, drop-drop, get_or-drop}
+use Rattle.std.specs.Prelude.{◌≡◌, ℕ, ◌+◌, ◌-◌, ◌*◌, ◌<◌, ◌≤◌, List, [], ◌∷◌, ◌++◌, length, take, drop, slice_index, zero, suc, get_or}
+use Rattle.std.specs.Simd.{first_chunks}
+use Rattle.std.proofs.Common.{zero-mul, suc-mul, sym, ap, ◌∙◌, add-one, arith, length-drop, take-add, take-suc, take_all, drop-drop, get_or-drop}
 use Rattle.fnv.specs.Fnv.{step, fold, fold_join, fold_cons, fold_nil}
 
 -- one octet more of a part
 pub take_next : (l : List ℕ) (at k : ℕ) → at + k < length l → take (k + 1) (drop at l) ≡ take k (drop at l) ++ (slice_index l (at + k) ∷ [])
 take_next l at k lt = rw add-one (take-suc (drop at l) k 0 (simp length-drop (omega arith)) ∙ rw (get_or-drop at l k 0))
+
+-- chunk i of n octets
+pub chunk_at : (n k i : ℕ) (l d : List ℕ) → i < k → get_or (first_chunks n k l) i d ≡ take n (drop (i * n) l)
+chunk_at n zero i l d h = absurd (omega arith)
+chunk_at n (suc k) zero l d h = rw zero-mul
+chunk_at n (suc k) (suc i) l d h =
+    let e : n + i * n ≡ suc i * n = omega (arith, suc-mul i n) in
+    chunk_at n k i (drop n l) d (omega arith) ∙ ap (take n) (drop-drop (i * n) n l ∙ ap (λ (o : ℕ). drop o l) e)
 
 module _ (h : ℕ) (l : List ℕ) where
   -- one octet more

@@ -104,6 +104,12 @@ zeros_next l at k x sum lt w e =
     sum_zero sum x ∙ ap (λ (b : Bool). b && x == 0) e ∙ sym (zeros_join (take k (drop at l)) x)
     ∙ ap all_zeros (ap (λ (y : ℕ). take k (drop at l) ++ (y ∷ [])) w ∙ sym (take_next l at k lt))
 
+-- and so does a test of each
+pub zeros_more : (l : List ℕ) (k : ℕ) → k < length l → (all_zeros (take k l) && slice_index l k == 0) ≡ all_zeros (take (k + 1) l)
+zeros_more l k lt =
+    let next : take (k + 1) l ≡ take k l ++ (slice_index l k ∷ []) = rw zero-add at (take_next l 0 k (omega arith)) in
+    sym (zeros_join (take k l) (slice_index l k)) ∙ ap all_zeros (sym next)
+
 zeros_are : (l : List ℕ) → all_zeros l ≡ true → l ≡ replicate (length l) 0
 zeros_are [] z = refl
 zeros_are (zero ∷ xs) z = ap (λ (r : List ℕ). 0 ∷ r) (zeros_are xs z)

@@ -1,5 +1,5 @@
 -- The ends of growth and the tail of a truncation, way by way: nothing to do, refused, a page touched; and what they leave room for.
-use Rattle.std.specs.Prelude.{◌≡◌, false, ◌&&◌, List, ltb, leb, length}
+use Rattle.std.specs.Prelude.{◌≡◌, false, ◌&&◌, List, ltb, leb, length, Ok, Err}
 use Rattle.std.proofs.Math.Path.{sym}
 use Rattle.std.proofs.Common.{ap, ◌∙◌, arith}
 use Prim.Native.Nat.{ℕ, ◌+◌, ◌-◌, ◌*◌, ◌/◌, ◌%◌, ◌≤◌, ◌<◌, min}
@@ -7,11 +7,10 @@ use Rattle.std.proofs.Math.Bool.{true, and-false}
 use borrow.Author.Tests.{lt-ltb, le-ltb, eq-eqb, ne_eqb}
 use Rattle.config.specs.Pages.{count, page_place}
 use Rattle.config.specs.declared.refusal.Refusal.{Refusal}
-use Rattle.config.specs.declared.refusal.Refusal.TheVariants.{OffsetOverflow, RecordFull}
+use Rattle.config.specs.declared.refusal.Refusal.TheVariants.{OffsetOverflow}
 use Rattle.update.specs.declared.Overlay.{Overlay}
 use Rattle.update.specs.declared.Image.{Image}
-use Rattle.update.specs.declared.Verdict.{Verdict}
-use Rattle.update.specs.declared.Verdict.TheVariants.{Accepted, Refused}
+use Rattle.update.specs.Verdict.{Verdict}
 use Rattle.update.specs.Pages.{partial}
 use Rattle.update.specs.Image.{image_in}
 use Rattle.update.specs.Update.{blank, stretch, accepted, try_patch, try_finish, try_grow, try_tail}
@@ -22,9 +21,7 @@ use Rattle.update.specs.StepLaws.{with_size, keep_accepted, keep_refused, grown_
 use Rattle.update.specs.LeaveLaws.{view_room, step_fits}
 use Rattle.update.specs.PushLaws.{pushed_recs, recording, accepted_same, refused_same, stretched, full_is, grown_full, grown_next}
 use Rattle.update.specs.Rooms.{try_patch_lem, stretch_room}
-use Rattle.pool.specs.declared.record.Pushed.{Pushed}
-use Rattle.pool.specs.declared.record.Pushed.TheVariants.{Entries, Full}
-use Rattle.pool.specs.Pool.{pushes, pushed}
+use Rattle.pool.specs.Pool.{Pushed, pushes, pushed}
 use Rattle.pool.specs.PushLaws.{Went, pushed_full, pushed_entries}
 use Rattle.update.specs.BufferLaws.{view_size}
 
@@ -40,11 +37,11 @@ module _ (P C : ℕ) (pos : 0 < P) (v : Overlay) (l : Buffers) (fits : Fits P C 
 
   -- ## The old end
 
-  pub patched_none : (z n : ℕ) → z % P ≡ 0 → laid v l Accepted ≡ patched P C M i mem v l z n
+  pub patched_none : (z n : ℕ) → z % P ≡ 0 → laid v l (Ok tt) ≡ patched P C M i mem v l z n
   unfolding patched try_patch
   patched_none z n h = rw (eq-eqb (z % P) 0 h) (sym (accepted_same P C pos v l fits 0))
 
-  pub patched_over : (z n : ℕ) → (z % P ≡ 0 → ⊥) → M < (z / P + 1) * P → laid v l (Refused OffsetOverflow) ≡ patched P C M i mem v l z n
+  pub patched_over : (z n : ℕ) → (z % P ≡ 0 → ⊥) → M < (z / P + 1) * P → laid v l (Err OffsetOverflow) ≡ patched P C M i mem v l z n
   unfolding patched try_patch
   patched_over z n h o = rw (ne_eqb (z % P) 0 h, lt-ltb M ((z / P + 1) * P) o) (sym (refused_same P C pos v l fits 0 OffsetOverflow))
 
@@ -58,11 +55,11 @@ module _ (P C : ℕ) (pos : 0 < P) (v : Overlay) (l : Buffers) (fits : Fits P C 
 
   -- ## The new end
 
-  pub finished_none : (z n : ℕ) → n % P ≡ 0 → laid v l Accepted ≡ finished P C M i mem v l z n
+  pub finished_none : (z n : ℕ) → n % P ≡ 0 → laid v l (Ok tt) ≡ finished P C M i mem v l z n
   unfolding finished try_finish
   finished_none z n h = rw (eq-eqb (n % P) 0 h) (sym (accepted_same P C pos v l fits 0))
 
-  pub finished_same : (z n : ℕ) → n / P ≡ z / P → laid v l Accepted ≡ finished P C M i mem v l z n
+  pub finished_same : (z n : ℕ) → n / P ≡ z / P → laid v l (Ok tt) ≡ finished P C M i mem v l z n
   unfolding finished try_finish
   finished_same z n h = rw (eq-eqb (z / P) (n / P) (sym h), and-false (partial P n)) (sym (accepted_same P C pos v l fits 0))
 
@@ -76,7 +73,7 @@ module _ (P C : ℕ) (pos : 0 < P) (v : Overlay) (l : Buffers) (fits : Fits P C 
 
   -- ## The tail
 
-  pub tailed_none : (n : ℕ) → n % P ≡ 0 → laid v l Accepted ≡ tailed P C M i mem v l n
+  pub tailed_none : (n : ℕ) → n % P ≡ 0 → laid v l (Ok tt) ≡ tailed P C M i mem v l n
   unfolding tailed try_tail
   tailed_none n h = rw (eq-eqb (n % P) 0 h) (sym (accepted_same P C pos v l fits 0))
 
@@ -97,15 +94,15 @@ module _ (P C : ℕ) (pos : 0 < P) (v : Overlay) (l : Buffers) (fits : Fits P C 
 
   -- ## Growth of a truncation
 
-  pub rests_same : (n : ℕ) → n ≤ v.size → laid v l Accepted ≡ grown_to P C M i mem v l n
+  pub rests_same : (n : ℕ) → n ≤ v.size → laid v l (Ok tt) ≡ grown_to P C M i mem v l n
   rests_same n h = sym (grown_to-none P C pos v l fits M i mem n h ∙ accepted_same P C pos v l fits 0)
 
-  pub grows_accepted : (n : ℕ) → v.size < n → (v1 : Overlay) (l1 : Buffers) → grown P C M i mem v l n ≡ laid v1 l1 Accepted → laid v1 l1 Accepted ≡ grown_to P C M i mem v l n
+  pub grows_accepted : (n : ℕ) → v.size < n → (v1 : Overlay) (l1 : Buffers) → grown P C M i mem v l n ≡ laid v1 l1 (Ok tt) → laid v1 l1 (Ok tt) ≡ grown_to P C M i mem v l n
   unfolding grown
   grows_accepted n h v1 l1 e = sym (grown_to-some P C pos v l fits M i mem n h ∙ keep_accepted P C pos v l fits v.size v.dirty (try_grow P M F R b n (view P C v l)) v1 l1 e)
 
-  pub grows_refused : (n : ℕ) → v.size < n → (v1 : Overlay) (l1 : Buffers) (r : Refusal) → grown P C M i mem v l n ≡ laid v1 l1 (Refused r)
-      → laid (with_size v.size v1) l1 (Refused r) ≡ grown_to P C M i mem v l n
+  pub grows_refused : (n : ℕ) → v.size < n → (v1 : Overlay) (l1 : Buffers) (r : Refusal) → grown P C M i mem v l n ≡ laid v1 l1 (Err r)
+      → laid (with_size v.size v1) l1 (Err r) ≡ grown_to P C M i mem v l n
   unfolding grown
   grows_refused n h v1 l1 r e = sym (grown_to-some P C pos v l fits M i mem n h ∙ keep_refused P C pos v l fits v.size v.dirty (try_grow P M F R b n (view P C v l)) v1 l1 r e)
 
@@ -120,12 +117,12 @@ module _ (P C : ℕ) (pos : 0 < P) (v : Overlay) (l : Buffers) (fits : Fits P C 
   asked : pushes r x ≡ pushed l.recs v.recorded (count P v.size) (count P n)
   asked = push ∙ (λ j. pushed l.recs v.recorded (first j) (last j))
 
-  pub grown_refused : (M : ℕ) (i : Image) (mem : List ℕ) → r ≡ Full → laid v recs_then (Refused RecordFull) ≡ grown P C M i mem v l n
-  grown_refused M i mem h =
-      let f = pushed_full l.recs v.recorded (count P v.size) (count P n) x (ap (λ (y : Pushed). pushes y x) (sym h) ∙ asked) in
-      ap (λ (y : List ℕ). laid v (bufs l.frames l.numbers l.clean y) (Refused RecordFull)) f.1 ∙ sym (grown_full P C pos v l fits n M i mem f.0)
+  pub grown_refused : (M : ℕ) (i : Image) (mem : List ℕ) → (q : Refusal) → r ≡ Err q → laid v recs_then (Err q) ≡ grown P C M i mem v l n
+  grown_refused M i mem q h =
+      let f = pushed_full l.recs v.recorded (count P v.size) (count P n) x q (ap (λ (y : Pushed). pushes y x) (sym h) ∙ asked) in
+      (λ j. laid v (bufs l.frames l.numbers l.clean (f.1 j)) (Err (f.2 j))) ∙ sym (grown_full P C pos v l fits n M i mem f.0)
 
-  module _ (k : ℕ) (h : r ≡ Entries k) where
+  module _ (k : ℕ) (h : r ≡ Ok k) where
     abbrev numbers_then : Overlay
     numbers_then = record { base_size = v.base_size; size = n; dirty = v.dirty; recorded = k; cache = v.cache; budget = v.budget }
 
@@ -151,7 +148,7 @@ module _ (P C : ℕ) (pos : 0 < P) (v : Overlay) (l : Buffers) (fits : Fits P C 
         ap (λ (y : ℕ). ltb (count P y) (count P n) && leb (entry_count l) (length (view P C v l).recorded)) (view_size P C v l) ∙ full_is P C pos v l fits n (count P v.size) (count P n) ∙ went.free in
         step_fits P C pos v l fits v.dirty (accepted (stretch P n (view P C v l))) fits.0
         (stretch_room P 0 (frame_count P l) (entry_count l) (length (cached P C v.cache)) (λ o. 0) n (view P C v l) (view_room P C pos v l fits) t)
-        numbers_then recs_then Accepted (stretched P C pos v l fits n went.free ∙ (λ j. laid (sym numbers_so j) (sym recs_so j) Accepted))
+        numbers_then recs_then (Ok tt) (stretched P C pos v l fits n went.free ∙ (λ j. laid (sym numbers_so j) (sym recs_so j) (Ok tt)))
 
     pub grown_ended : (M : ℕ) (i : Image) (mem : List ℕ) → ended P C M i mem numbers_then recs_then v.size n ≡ grown P C M i mem v l n
     grown_ended M i mem = (λ j. ended P C M i mem (numbers_so j) (recs_so j) v.size n) ∙ grown_next P C pos v l fits n M i mem went.free

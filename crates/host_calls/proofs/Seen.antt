@@ -8,7 +8,7 @@ use Rattle.memory.specs.Bytes.{overwrite}
 use Rattle.memory.specs.Laws.{split}
 use Rattle.update.specs.ListLaws.{clash}
 use Rattle.store.specs.declared.State.{State}
-use Rattle.store.specs.declared.Answer.{Answer}
+use Rattle.store.specs.Answers.{Answer}
 use Rattle.store.specs.Cases.{by_test}
 use Rattle.store.proofs.OnlyShort.{only_short}
 use Rattle.store.specs.Codec.{real_codec}

@@ -3,7 +3,7 @@ use Rattle.std.specs.Prelude.{◌≡◌, ℕ, zero, suc, ◌+◌, ◌-◌, ◌*�
 use Rattle.std.proofs.Common.{sym, ap, ◌∙◌, zero-add, suc-add, add-zero, arith, append-nil, length-append, length-drop, drop_of_length-le, ext_get_or, take_all, le-ltb}
 use Rattle.std.proofs.Math.Seq.{take-append_seam}
 use borrow.Rule.Slice.PartMut.{put_mid}
-use Rattle.memory.specs.Bytes.{zeros, overwrite}
+use Rattle.memory.specs.Bytes.{zeros, overwrite, filled}
 use Rattle.memory.specs.Laws.{length-zeros, zeros_at, length-overwrite, overwrite_join, overwrite_all, overwrite_mid, overwrite_more, take-overwrite, part_back, part_filled}
 use Rattle.fnv.specs.Fnv.{fold, fold_join, fold_nil}
 use Rattle.fnv.specs.Zeros.{fold_zeros, fold_zeros-is}
@@ -65,18 +65,21 @@ module _ (P : ℕ) (pos : 0 < P) (i : Image) (mem : List ℕ) where
   unfolding image_byte
   byte_past o h = rw (le-ltb o i.size h)
 
-  pub read_past : (o n : ℕ) → i.size ≤ o → zeros n ≡ tabulate_from o n byte
+  pub read_past : (o n : ℕ) → (0 < n → i.size ≤ o) → zeros n ≡ tabulate_from o n byte
   read_past o n h = ext_get_or 0 _ _ (length-zeros n ∙ sym (length-tabulate_from o n byte))
-      (λ k j. let u : k < n = omega (arith, length-zeros n) in zeros_at n k ∙ sym (tabulate_from-at o n byte k u ∙ byte_past (o + k) (omega arith)))
+      (λ k j.
+      let u : k < n = omega (arith, length-zeros n) in
+      let p : i.size ≤ o = h (omega arith) in
+      zeros_at n k ∙ sym (tabulate_from-at o n byte k u ∙ byte_past (o + k) (omega arith)))
 
   -- up to the size, and past it
-  pub read_both : (o n : ℕ) (new d z : List ℕ) → n ≤ length d → i.size ≤ o + n → new ≡ tabulate_from o n byte
+  pub read_both : (o n : ℕ) (new d z : List ℕ) → n ≤ length d → (n < length d → i.size ≤ o + n) → new ≡ tabulate_from o n byte
       → z ≡ zeros (length (take (length (new ++ drop n d) - n) (drop n (new ++ drop n d))))
       → put_mid n (length (new ++ drop n d) - n) (new ++ drop n d) z ≡ tabulate_from o (length d) byte
   read_both o n new d z h p e f =
       let m : length new ≡ n = ap length e ∙ length-tabulate_from o n byte in
       let s : n + (length d - n) ≡ length d = omega arith in
-      front_filled n new d z m h f ∙ (λ j. e j ++ read_past (o + n) (length d - n) p j)
+      front_filled n new d z m h f ∙ (λ j. e j ++ read_past (o + n) (length d - n) (λ x. p (omega arith)) j)
       ∙ sym (tabulate_join o n (length d - n) byte) ∙ ap (λ (x : ℕ). tabulate_from o x byte) s
 
   -- the checksum taken on over a part of a page
@@ -95,7 +98,7 @@ module _ (P : ℕ) (pos : 0 < P) (i : Image) (mem : List ℕ) where
 -- ## Zeros
 
 pub fold_zeros_lem : (n h : ℕ) → fold_zeros n h ≡ fold h (zeros n)
-unfolding zeros
+unfolding filled
 fold_zeros_lem n h = fold_zeros-is n h
 
 -- ## Runs by number
@@ -107,6 +110,10 @@ count_none count mem h = omega arith
 pub count_is : (count : ℕ) (mem : List ℕ) (a n : ℕ) → a ≡ min count 1024 → n ≡ min a ((length mem - 160) / 16) → n ≡ image_count count mem
 unfolding image_count
 count_is count mem a n h k = omega arith
+
+pub number_fits : (count k : ℕ) (mem : List ℕ) → k < image_count count mem * 2 → 160 + k * 8 + 8 ≤ length mem
+unfolding image_count
+number_fits count k mem h = omega arith
 
 pub numbers_none : (count : ℕ) (mem : List ℕ) → image_count count mem ≡ 0 → image_numbers count mem ≡ []
 unfolding image_numbers

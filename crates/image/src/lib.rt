@@ -3,18 +3,19 @@
 
 ghost use Rattle.std.specs.Prelude.{◌≡◌, ◌+◌, ◌-◌, ◌*◌, ◌≤◌, min, length, take};
 ghost use Rattle.memory.specs.Bytes.{zeros};
-ghost use Rattle.fnv.specs.Fnv.{fold};
+ghost use Rattle.fnv.specs.Fnv.{fold as folded};
 ghost use Rattle.meta.specs.Stored.{outcome};
 ghost use Rattle.image_runs.specs.Image.{image_count, image_numbers};
 ghost use Rattle.update.specs.Lists.{tabulate_from};
 ghost use Rattle.update.specs.Image.{image_in, image_part};
-ghost use Rattle.pool.specs.Stored.{stored};
+ghost use Rattle.pool.specs.Stored.{stored as held};
 ghost use Rattle.image.specs.Reading.{image_of, resealed, restored};
 
 use config::PAGE_LEN;
 use meta::Superblock;
-use update::Image;
+use update::{Image, Stored};
 
+// Not a `From`: neither type is this crate's.
 pub fn image_of(b: Superblock) -> Image
     ensures { result ≡ image_of b }
 {
@@ -26,85 +27,81 @@ pub fn image_of(b: Superblock) -> Image
 }
 
 // The bytes from `offset` on, page by page; all of them below the image's size.
-fn read_pages(dst: &mut [u8], mem: &[u8], image: Image, offset: u64)
+fn read_pages(dst: &mut [u8], stored: Stored<'_>, offset: u64)
     requires { offset + length dst.old ≤ 18446744073709551615 }
-    ensures { dst.new ≡ tabulate_from offset (length dst.old) (image_in 16384 image mem.now) }
+    ensures { dst.new ≡ tabulate_from offset (length dst.old) (image_in 16384 stored.entry.image stored.entry.mem.now) }
 {
     let mut done = 0;
+    // No iterator of the library cuts a slice at the ends of pages: the first part may be shorter than a page.
     while done < dst.len() {
         let absolute = offset + (done as u64);
         let within = config::page_offset(absolute);
-        let end = done + memory::least(PAGE_LEN - within, dst.len() - done);
-        pool::read_image(&mut dst[done..end], mem, image, absolute);
+        let end = done + (PAGE_LEN - within).min(dst.len() - done);
+        pool::read_image(&mut dst[done..end], stored, absolute);
         done = end;
     }
 }
 
 // The image's bytes from `offset` on become all of `dst`; past the size they are zeros.
-pub fn read(dst: &mut [u8], mem: &[u8], image: Image, offset: u64)
-    ensures { dst.new ≡ tabulate_from offset (length dst.old) (image_in 16384 image mem.now) }
+pub fn read(dst: &mut [u8], stored: Stored<'_>, offset: u64)
+    ensures { dst.new ≡ tabulate_from offset (length dst.old) (image_in 16384 stored.entry.image stored.entry.mem.now) }
 {
-    if image.size <= offset {
-        memory::fill(dst);
-        return;
-    }
-    if (dst.len() as u64) <= image.size - offset {
-        read_pages(dst, mem, image, offset);
-        return;
-    }
-    let n = (image.size - offset) as usize;
-    read_pages(&mut dst[..n], mem, image, offset);
-    memory::fill(&mut dst[n..]);
+    let left = stored.image.size.saturating_sub(offset);
+    let n = left.min(dst.len() as u64) as usize;
+    read_pages(&mut dst[..n], stored, offset);
+    memory::fill(&mut dst[n..], 0);
 }
 
 // The checksum `hash`, taken on over as many zeros as `page` has bytes: a whole page of them is one multiplication. `page` is room for bytes, here and below.
 fn fold_zeros(hash: u64, page: &mut [u8]) -> u64
-    ensures { result ≡ fold hash (zeros (length page.old)) }
+    ensures { result ≡ folded hash (zeros (length page.old)) }
 {
     if page.len() == PAGE_LEN {
         return fnv::fold_zero_page(hash);
     }
-    memory::fill(page);
+    memory::fill(page, 0);
     meta::fold_fnv1a64(hash, page)
 }
 
 // Taken on over the image's bytes from `at` on, as memory holds them: where they lie in it below the size they are not copied first.
-fn fold_stored(hash: u64, page: &mut [u8], mem: &[u8], image: Image, at: u64) -> u64
-    ensures { result ≡ fold hash (stored image mem.now at (length page.old)) }
+fn fold_stored(hash: u64, page: &mut [u8], stored: Stored<'_>, at: u64) -> u64
+    ensures { result ≡ folded hash (held stored.entry.image stored.entry.mem.now at (length page.old)) }
 {
-    let end = pool::reach(image.base, image.size, mem.len());
+    let image = stored.image;
+    let end = pool::reach(image.base, image.size, stored.mem.len());
     let from = pool::reach(image.base, at, end);
     if page.len() <= end - from {
         let to = from + page.len();
-        return meta::fold_fnv1a64(hash, &mem[from..to]);
+        return meta::fold_fnv1a64(hash, &stored.mem[from..to]);
     }
-    pool::read_stored(page, mem, image, at);
+    pool::read_stored(page, stored, at);
     meta::fold_fnv1a64(hash, page)
 }
 
 // Taken on over the image's bytes from `at` on, as those of the page that `at` lies in.
-fn fold_part(hash: u64, page: &mut [u8], mem: &[u8], image: Image, at: u64) -> u64
-    ensures { result ≡ fold hash (image_part 16384 image mem.now at (length page.old)) }
+fn fold_part(hash: u64, page: &mut [u8], stored: Stored<'_>, at: u64) -> u64
+    ensures { result ≡ folded hash (image_part 16384 stored.entry.image stored.entry.mem.now at (length page.old)) }
 {
     let number = config::page_no(at);
-    let runs = image.runs;
-    if image_runs::image_covers(mem, runs, number.0) {
+    let runs = stored.image.runs;
+    if image_runs::image_covers(stored.mem, runs, number.0) {
         return fold_zeros(hash, page);
     }
-    fold_stored(hash, page, mem, image, at)
+    fold_stored(hash, page, stored, at)
 }
 
-// Taken on over the image's bytes `from .. end`, page by page.
-pub fn fold(hash: u64, mem: &[u8], image: Image, from: u64, end: u64) -> u64
-    ensures { result ≡ fold hash (tabulate_from from (end - from) (image_in 16384 image mem.now)) }
+// The checksum `hash`, taken on over the image's bytes `from .. end`, page by page.
+pub fn fold(hash: u64, stored: Stored<'_>, from: u64, end: u64) -> u64
+    ensures { result ≡ folded hash (tabulate_from from (end - from) (image_in 16384 stored.entry.image stored.entry.mem.now)) }
 {
     let mut sum = hash;
     let mut at = from;
     let mut page = [0u8; 16_384];
+    // The parts end where pages end, as above.
     while at < end {
         let within = config::page_offset(at);
         let n = part(PAGE_LEN - within, end - at);
-        sum = fold_part(sum, &mut page[..n], mem, image, at);
+        sum = fold_part(sum, &mut page[..n], stored, at);
         at += n as u64;
     }
     sum
@@ -114,29 +111,34 @@ pub fn fold(hash: u64, mem: &[u8], image: Image, from: u64, end: u64) -> u64
 fn part(most: usize, left: u64) -> usize
     ensures { result ≡ min most left }
 {
-    if left < (most as u64) {
-        return left as usize;
-    }
-    most
+    left.min(most as u64) as usize
 }
 
-// The numbers of the image's runs, as they stand in its bytes, in front of `out`: how many there are.
+// How many runs the image has in memory.
+fn count_runs(mem: &[u8], count: usize) -> usize
+    ensures { result ≡ image_count count mem.now }
+{
+    let room = mem.len().saturating_sub(Superblock::EXTENTS_OFFSET) / 16;
+    count.min(Superblock::MAX_ZERO_EXTENTS as usize).min(room)
+}
+
+// Their numbers, as they stand in its bytes, become all of `out`.
+fn read_runs(out: &mut [u64], mem: &[u8], count: usize)
+    requires { length out.old ≡ image_count count mem.now * 2 }
+    ensures { out.new ≡ image_numbers count mem.now }
+{
+    for (i, number) in out.iter_mut().enumerate() {
+        *number = meta::read_word(mem, Superblock::EXTENTS_OFFSET + i * 8);
+    }
+}
+
+// The numbers of the image's runs in front of `out`: how many there are.
 fn copy_runs(out: &mut [u64], mem: &[u8], count: usize) -> usize
     requires { 2048 ≤ length out.old }
     ensures { (result ≡ image_count count mem.now * 2) × (take result out.new ≡ image_numbers count mem.now) }
 {
-    if mem.len() < Superblock::EXTENTS_OFFSET {
-        return 0;
-    }
-    let n = memory::least(
-        memory::least(count, Superblock::MAX_ZERO_EXTENTS as usize),
-        (mem.len() - Superblock::EXTENTS_OFFSET) / 16,
-    ) * 2;
-    let mut i = 0;
-    while i < n {
-        out[i] = meta::read_word(mem, Superblock::EXTENTS_OFFSET + i * 8);
-        i += 1;
-    }
+    let n = count_runs(mem, count) * 2;
+    read_runs(&mut out[..n], mem, count);
     n
 }
 

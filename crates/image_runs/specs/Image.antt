@@ -1,8 +1,10 @@
 -- The runs of an image, in its bytes.
-use Rattle.std.specs.Prelude.{ℕ, suc, ◌+◌, ◌-◌, ◌*◌, ◌/◌, ◌≤◌, ◌<◌, min, ◌≡◌, List, length, get_or, drop}
-use Rattle.std.proofs.Common.{sym, ap, ◌∙◌, arith, get_or-drop, drop-drop, take_all}
+use Rattle.std.specs.Prelude.{ℕ, zero, suc, refl, ◌+◌, ◌-◌, ◌*◌, ◌/◌, ◌≤◌, ◌<◌, min, ◌≡◌, List, ◌∷◌, length, get_or, take, drop}
+use Rattle.std.proofs.Common.{sym, ap, ◌∙◌, arith, get_or-drop, drop-drop, take_all, length-take, length-drop}
+use Rattle.std.proofs.lemmas.List.{get_or-take}
 use Rattle.meta.specs.declared.ZeroExtent.{ZeroExtent}
-use Rattle.meta.specs.Runs.{run, runs_of}
+use Rattle.meta.specs.Runs.{run, runs_of, runs_in-alike}
+use Rattle.meta.specs.Runs.{runs_in as stored}
 use Rattle.words.specs.Words.{de, word_at, words_in, word_at-drop, words_in_at, length-words_in}
 use Rattle.runs.specs.Flat.{runs_in, at, upto}
 use Rattle.runs.specs.FlatLaws.{runs_in-upto, length-upto}
@@ -44,6 +46,25 @@ unfolding runs_in
 image_upto n mem =
     sym (runs_in-upto (image_numbers n mem) (image_count n mem) (omega (arith, length-image n mem)))
     ∙ ap runs_of (take_all (image_count n mem * 2) (image_numbers n mem) (omega (arith, length-image n mem)))
+
+-- the same numbers, as runs in bytes
+pub words_runs : (n : ℕ) (l : List ℕ) → runs_of (words_in (n * 2) l) ≡ stored n l
+words_runs zero l = refl
+words_runs (suc n) l =
+    let e : suc n * 2 ≡ suc (suc (n * 2)) = omega arith in
+    let y : word_at 0 (drop 8 l) ≡ word_at 8 l = word_at-drop 8 0 l in
+    let d : drop 8 (drop 8 l) ≡ drop 16 l = drop-drop 8 8 l in
+    ap (λ (k : ℕ). runs_of (words_in k l)) e
+    ∙ (λ i. run (word_at 0 l) (y i) ∷ (ap (λ (t : List ℕ). runs_of (words_in (n * 2) t)) d ∙ words_runs n (drop 16 l)) i)
+
+-- the image's runs in the bytes that hold them and no more
+pub image_stored : (n : ℕ) (mem : List ℕ) → let b = take (image_count n mem * 16) (drop 160 mem) in stored (length b / 16) b ≡ image_runs n mem
+unfolding image_count image_numbers
+image_stored n mem =
+    let k : ℕ = image_count n mem in
+    let l : List ℕ = drop 160 mem in
+    let h : length (take (k * 16) l) / 16 ≡ k = omega (arith, length-take (k * 16) l, length-drop 160 mem) in
+    rw h (runs_in-alike k (take (k * 16) l) l (λ i j. get_or-take (k * 16) l i 0 j) ∙ sym (words_runs k l))
 
 pub image_few : (n : ℕ) (mem : List ℕ) → length (image_runs n mem) ≤ 1024
 image_few n mem = omega (arith, ap length (image_upto n mem), length-upto (image_numbers n mem) 0 (image_count n mem), image_most n mem)

@@ -1,4 +1,5 @@
 // What a call tests first of what it is lent, and the state that an update leaves when it ends.
+// The lent slices are parameters of their own, as `update::Stored` says.
 #![tactic(auto)]
 
 ghost use Rattle.std.specs.Prelude.{◌≡◌};
@@ -43,8 +44,8 @@ pub fn ended(count: StablePages, block: Superblock) -> State
 }
 
 // 35 for the buffers of an update.
-pub fn are_short(s: State, frames: &[u8], numbers: &[u64], clean: &[u8], record: &[u64]) -> bool
-    ensures { result ≡ buffers_short 16384 65536 8 1024 (mode_of s) (bufs frames.now numbers.now clean.now «record».now) }
+pub fn are_short(s: &State, frames: &[u8], numbers: &[u64], clean: &[u8], record: &[u64]) -> bool
+    ensures { result ≡ buffers_short 16384 65536 8 1024 (mode_of s.now) (bufs frames.now numbers.now clean.now «record».now) }
 {
     if s.updating {
         return overlay::are_short(s.overlay, frames, numbers, clean, record);
@@ -54,7 +55,7 @@ pub fn are_short(s: State, frames: &[u8], numbers: &[u64], clean: &[u8], record:
 
 // 35 for all that a call can be lent.
 pub fn any_is_short(
-    s: State,
+    s: &State,
     mem: &[u8],
     frames: &[u8],
     numbers: &[u64],
@@ -62,14 +63,9 @@ pub fn any_is_short(
     record: &[u64],
     work: &[u64],
 ) -> bool
-    ensures { result ≡ short 16384 65536 8 1024 s (lent mem.now (bufs frames.now numbers.now clean.now «record».now) work.now) commit }
+    ensures { result ≡ short 16384 65536 8 1024 s.now (lent mem.now (bufs frames.now numbers.now clean.now «record».now) work.now) commit }
 {
-    let count = s.count;
-    if !memory::is_lent(mem, count) {
-        return true;
-    }
-    if are_short(s, frames, numbers, clean, record) {
-        return true;
-    }
-    work.len() / 2 < WORK_RUNS + 2 * touch::frame_count(frames, numbers)
+    !memory::is_lent(mem, s.count)
+        || are_short(s, frames, numbers, clean, record)
+        || work.len() / 2 < WORK_RUNS + 2 * touch::frame_count(frames, numbers)
 }

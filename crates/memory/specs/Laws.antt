@@ -1,14 +1,14 @@
 -- Laws of the definitions of Bytes, by length and by element.
 use Rattle.std.specs.Prelude.{◌≡◌, refl, Bool, true, false, List, [], ◌∷◌, ◌++◌, ℕ, zero, suc, ◌+◌, ◌-◌, ◌≤◌, ◌<◌, min, ltb, take, set, replicate}
 use Rattle.std.proofs.Math.Path.{sym, ap}
-use Rattle.std.proofs.Common.{◌∙◌, append-nil, add-one, length-drop, drop_of_length-le, take-add, take-suc, take_all, take-take, drop-drop, get_or-append-add, ext_get_or, ltb-true, ltb-false}
+use Rattle.std.proofs.Common.{◌∙◌, append_assoc, append-nil, add-one, length-drop, drop_of_length-le, take-add, take-suc, take_all, take-take, drop-drop, get_or-append-add, ext_get_or, ltb-true, ltb-false}
 use Rattle.std.proofs.Math.Nat.{sub-zero, zero-sub, suc-sub-suc}
 use native.Mathlib.Omega.{arith}
 use Rattle.std.proofs.Math.ListN.{length, drop, get_or, length-append, length-take, get_or-eq_default, get_or-append}
-use Rattle.std.proofs.lemmas.List.{length-replicate, set_split}
+use Rattle.std.proofs.lemmas.List.{length-replicate, set_split, drop_more, set_at, replicate_more}
 use Rattle.std.proofs.Math.Seq.{take-append_seam, drop-length, get_or-take, get_or-drop, take-nil}
 use borrow.Rule.Slice.PartMut.{put_mid}
-use Rattle.memory.specs.Bytes.{zeros, overwrite, resize}
+use Rattle.memory.specs.Bytes.{zeros, overwrite, resize, filled}
 
 -- a case split that keeps the equation
 pub split {ℓ} : {X : Type ℓ} (b : Bool) → (b ≡ true → X) → (b ≡ false → X) → X
@@ -27,17 +27,17 @@ append_at a b i h =
 -- ## zeros
 
 pub length-zeros : (n : ℕ) → length (zeros n) ≡ n
-unfolding zeros
+unfolding filled
 length-zeros n = length-replicate {A = ℕ} n 0
 
 pub zeros_at : (n i : ℕ) → get_or (zeros n) i 0 ≡ 0
-unfolding zeros
+unfolding filled
 zeros_at zero i = refl
 zeros_at (suc n) zero = refl
 zeros_at (suc n) (suc i) = zeros_at n i
 
 pub zeros_none : zeros 0 ≡ []
-unfolding zeros
+unfolding filled
 zeros_none = refl
 
 -- ## resize
@@ -103,9 +103,11 @@ module _ (at : ℕ) (new xs : List ℕ) where
         (λ hi. get_or-eq_default (overwrite at new xs) 0 (omega (arith, length-overwrite)) ∙ sym (get_or-eq_default xs 0 hi))
 
 -- nothing is written past the end
-pub overwrite_out : (at : ℕ) (new xs : List ℕ) → length xs ≤ at → overwrite at new xs ≡ xs
-overwrite_out at new xs h = ext_get_or 0 _ _ (length-overwrite at new xs)
-    (λ i k. overwrite_lo at new xs i (omega (arith, length-overwrite at new xs)))
+pub overwrite_out : {A : Type 0} (at : ℕ) (new xs : List A) → length xs ≤ at → overwrite at new xs ≡ xs
+unfolding overwrite
+overwrite_out at new xs h =
+    let none : length xs - at ≡ 0 = omega arith in
+    rw (take_all at xs h, none, drop_of_length-le xs {i = at + length new} (omega arith)) (append-nil xs)
 
 pub overwrite_nil : (at : ℕ) (xs : List ℕ) → overwrite at [] xs ≡ xs
 overwrite_nil at xs = ext_get_or 0 _ _ (length-overwrite at [] xs)
@@ -131,23 +133,28 @@ overwrite_join at a b xs = ext_get_or 0 _ _ (length-overwrite (at + length a) b 
     ∙ sym (overwrite_hi at (a ++ b) xs i (omega arith))))))
 
 -- a part that was lent and comes back
-pub part_back : (at k : ℕ) (xs new : List ℕ) → length new ≡ k → at + k ≤ length xs → put_mid at k xs new ≡ overwrite at new xs
+pub part_back : {A : Type 0} (at k : ℕ) (xs new : List A) → length new ≡ k → at + k ≤ length xs → put_mid at k xs new ≡ overwrite at new xs
 unfolding overwrite
 part_back at k xs new l h =
     let t : take (length xs - at) new ≡ new = take_all (length xs - at) new (omega arith) in
     rw (t, l, drop-drop k at xs)
 
 -- what is past the end of xs is not written
-pub overwrite_cut : (at n : ℕ) (new xs : List ℕ) → length xs ≤ at + n → overwrite at (take n new) xs ≡ overwrite at new xs
-overwrite_cut at n new xs h = ext_get_or 0 _ _ (length-overwrite at (take n new) xs ∙ sym (length-overwrite at new xs))
-    (λ i k.
-    let l : i < length xs = omega (arith, length-overwrite at (take n new) xs) in
-    let m : length (take n new) ≡ min n (length new) = length-take n new in
-    below i at
-    (λ lo. overwrite_lo at (take n new) xs i lo ∙ sym (overwrite_lo at new xs i lo))
-    (λ hi. below i (at + length new)
-    (λ lo. overwrite_in at (take n new) xs i hi (omega arith) l ∙ get_or-take n new (i - at) 0 (omega arith) ∙ sym (overwrite_in at new xs i hi lo l))
-    (λ past. overwrite_hi at (take n new) xs i (omega arith) ∙ sym (overwrite_hi at new xs i past))))
+pub overwrite_cut : {A : Type 0} (at n : ℕ) (new xs : List A) → length xs ≤ at + n → overwrite at (take n new) xs ≡ overwrite at new xs
+unfolding overwrite
+overwrite_cut at n new xs h = below n (length new)
+    (λ lo.
+    let l : length (take n new) ≡ n = length-take n new ∙ omega arith in
+    rw (take-take (length xs - at) n new (omega arith), drop_of_length-le xs {i = at + length (take n new)} (omega arith), drop_of_length-le xs {i = at + length new} (omega arith)))
+    (λ hi. ap (λ l. take at xs ++ (take (length xs - at) l ++ drop (at + length l) xs)) (take_all n new hi))
+
+-- what fits of new, in a part that was lent and comes back
+pub part_fitted : {A : Type 0} (at k n : ℕ) (new xs : List A) → k ≡ n → at ≤ length xs → n ≡ min (length new) (length xs - at) → put_mid at k xs (take n new) ≡ overwrite at new xs
+part_fitted at k n new xs e h f =
+    part_back at k xs (take n new) (length-take n new ∙ omega arith) (omega arith)
+    ∙ below n (length new)
+    (λ lo. overwrite_cut at n new xs (omega arith))
+    (λ hi. ap (λ l. overwrite at l xs) (take_all n new hi))
 
 -- all of xs
 pub overwrite_all : (new xs : List ℕ) → length new ≡ length xs → overwrite 0 new xs ≡ new
@@ -166,10 +173,15 @@ overwrite_zeros n new = ext_get_or 0 _ _ (length-overwrite 0 new (zeros n) ∙ l
     (λ lo. overwrite_in 0 new (zeros n) i (omega arith) (omega arith) m ∙ ap (λ (j : ℕ). get_or new j 0) (omega arith) ∙ sym (resize_in n new i l))
     (λ hi. overwrite_hi 0 new (zeros n) i (omega arith) ∙ zeros_at n i ∙ sym (resize_in n new i l ∙ get_or-eq_default new 0 hi)))
 
+-- one element more of a fill
+pub fill_more : {A : Type 0} (x : A) (n : ℕ) (xs : List A) → n < length xs → set (replicate n x ++ drop n xs) n x ≡ replicate (n + 1) x ++ drop (n + 1) xs
+fill_more x n xs h =
+    rw (drop_more xs n x h, set_at (replicate n x) (get_or xs n x) (drop (n + 1) xs) x n (length-replicate n x), ← replicate_more n x, append_assoc)
+
 -- a fill that has come to the end
-pub fill_end : (n : ℕ) (xs : List ℕ) → n ≡ length xs → replicate n 0 ++ drop n xs ≡ zeros (length xs)
-unfolding zeros
-fill_end n xs e = rw (e, drop-length xs, append-nil)
+pub fill_end : {A : Type 0} (x : A) (n : ℕ) (xs : List A) → n ≡ length xs → replicate n x ++ drop n xs ≡ filled x (length xs)
+unfolding filled
+fill_end x n xs e = rw (e, drop-length xs, append-nil)
 
 -- what fits of new, over the front of xs
 pub overwrite_front : (n : ℕ) (new xs : List ℕ) → n ≡ min (length xs) (length new) → take n new ++ drop n xs ≡ overwrite 0 new xs

@@ -2,23 +2,13 @@
 // stable pages of its length are the ceiling.
 #![tactic(auto)]
 
-mod numbers;
 mod part;
 
-ghost use Rattle.std.specs.Prelude.{◌≡◌, ◌*◌, ◌/◌, min, length, leb};
+ghost use Rattle.std.specs.Prelude.{◌≡◌, ◌+◌, ◌*◌, ◌/◌, min, length, leb};
+ghost use Rattle.memory.specs.Growth.{outcome, grow_to};
 
 use config::{Refusal, STABLE_PAGE_SIZE, StablePages};
-pub use numbers::{copy_numbers, fill_numbers};
-pub use part::{copy, fill, fill_at, least, load, read, write};
-
-// The new count, or 32.
-#[derive(Clone, Copy)]
-pub enum Growth {
-    Grown(StablePages),
-    Refused(Refusal),
-}
-
-ghost use Rattle.memory.specs.Growth.{outcome, grow_to};
+pub use part::{copy, fill, fill_at, read, write};
 
 // The stable pages that the lent slice holds.
 pub fn ceiling(mem: &[u8]) -> StablePages
@@ -31,37 +21,33 @@ pub fn ceiling(mem: &[u8]) -> StablePages
 pub fn capacity(count: StablePages) -> u64
     ensures { result ≡ min (count.0 * 65536) 18446744073709551615 }
 {
-    if u64::MAX / STABLE_PAGE_SIZE < count.0 {
-        return u64::MAX;
-    }
-    count.0 * STABLE_PAGE_SIZE
+    count.0.saturating_mul(STABLE_PAGE_SIZE)
 }
 
 // Whether the lent slice holds the current count.
 pub fn is_lent(mem: &[u8], count: StablePages) -> bool
     ensures { result ≡ leb (count.0 * 65536) (length mem.now) }
 {
-    let most = ceiling(mem);
-    count.0 <= most.0
+    count <= ceiling(mem)
 }
 
-// Memory of `count` stable pages grows until it reaches the offset `end`.
-pub fn grow(mem: &mut [u8], count: StablePages, end: u64) -> Growth
+// Memory of `count` stable pages grows until it reaches the offset `end`: the new count, or 32.
+pub fn grow(mem: &mut [u8], count: StablePages, end: u64) -> Result<StablePages, Refusal>
     ensures { outcome result mem.new ≡ grow_to 65536 count.0 end mem.old }
 {
     let required = config::stable_pages_for(end);
-    if required.0 <= count.0 {
-        return Growth::Grown(count);
+    if required <= count {
+        return Ok(count);
     }
     let most = ceiling(mem);
-    if most.0 < required.0 {
-        return Growth::Refused(Refusal::GrowFailed {
+    if most < required {
+        return Err(Refusal::GrowFailed {
             current: count,
             required,
         });
     }
     let from = (count.0 * STABLE_PAGE_SIZE) as usize;
     let to = (required.0 * STABLE_PAGE_SIZE) as usize;
-    fill(&mut mem[from..to]);
-    Growth::Grown(required)
+    fill(&mut mem[from..to], 0);
+    Ok(required)
 }

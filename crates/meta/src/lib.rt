@@ -8,7 +8,7 @@ pub use superblock::Superblock;
 pub use words::{read_word, write_word};
 
 // Pages from `start` up to, not including, `end`, that are zeros.
-#[derive(Clone, Copy)]
+#[derive(Clone, Copy, Debug, PartialEq, Eq)]
 pub struct ZeroExtent {
     pub start: u64,
     pub end: u64,

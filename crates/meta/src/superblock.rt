@@ -1,13 +1,12 @@
 // The superblock by value, its encoding, and its store.
-ghost use Rattle.std.specs.Prelude.{◌≡◌, [], ℕ, ◌+◌, ◌*◌, ◌≤◌, ◌<◌, min, length, drop};
+ghost use Rattle.std.specs.Prelude.{◌≡◌, ◌≤◌, ◌<◌, length};
 ghost use Rattle.memory.specs.Bytes.{zeros, overwrite};
-ghost use Rattle.words.specs.Words.{words};
 
 use fnv::fnv1a64;
-use words::{read_word, write_word};
+use words::{read_word, read_words, write_word, write_words};
 
 // The zero runs are not among the fields: they stay in the bytes, or in a list of numbers.
-#[derive(Clone, Copy)]
+#[derive(Clone, Copy, Debug, PartialEq, Eq)]
 pub struct Superblock {
     // "ICSQLITE", read as a little-endian number
     pub magic: u64,
@@ -33,56 +32,14 @@ pub struct Superblock {
     pub meta_checksum: u64,
 }
 
-ghost use Rattle.meta.specs.Block.{fields_of, fields_in, field_offset, block_bytes, encoded_len, sealed_by, checksum_of};
+ghost use Rattle.meta.specs.Block.{fields_of, field_offset, block_bytes, encoded_len, sealed_by};
 ghost use Rattle.meta.specs.Block.{decode as decoded};
 ghost use Rattle.meta.specs.Block.{encode as encoded};
 ghost use Rattle.meta.specs.Block.{seal as sealed};
 ghost use Rattle.meta.specs.Block.{fresh as freshBlock};
 ghost use Rattle.meta.specs.Block.{store_in};
-ghost use Rattle.meta.specs.Block.{numbers_of, of_numbers};
+ghost use Rattle.meta.specs.Block.{numbers_of, of_numbers, of_fields};
 ghost use Rattle.meta.specs.Stored.{outcome};
-
-fn write_fields(out: &mut [u8], fields: &[u64])
-    requires { (160 ≤ length out.old) × (length fields.now ≡ 18) }
-    ensures { out.new ≡ overwrite 16 (words fields.now) out.old }
-{
-    let mut k: usize = 0;
-    while k < Superblock::FIELDS {
-        write_word(out, Superblock::field_offset(k), fields[k]);
-        k += 1;
-    }
-}
-
-fn read_fields(bytes: &[u8]) -> [u64; Superblock::FIELDS]
-    requires { 160 ≤ length bytes.now }
-    ensures { result ≡ fields_in bytes.now }
-{
-    let mut out = [0u64; Superblock::FIELDS];
-    let mut k: usize = 0;
-    while k < Superblock::FIELDS {
-        out[k] = read_word(bytes, Superblock::field_offset(k));
-        k += 1;
-    }
-    out
-}
-
-// Numbers go one behind the other to a place.
-fn write_words(out: &mut [u8], at: usize, numbers: &[u64])
-    requires { at + length numbers.now * 8 ≤ length out.old }
-    ensures { out.new ≡ overwrite at (words numbers.now) out.old }
-{
-    let mut k: usize = 0;
-    while k < numbers.len() {
-        write_word(out, at + k * 8, numbers[k]);
-        k += 1;
-    }
-}
-
-fn least(a: u64, b: u64) -> u64
-    ensures { result ≡ min a b }
-{
-    if a < b { a } else { b }
-}
 
 // "with fresh and limits as items of `Superblock`"
 impl Superblock {
@@ -102,8 +59,10 @@ impl Superblock {
     // With magic, version and page size.
     pub const NUMBERS: usize = 3 + Superblock::FIELDS;
 
+    const FIELDS_OFFSET: usize = 16;
+
     // The runs follow the fields.
-    pub const EXTENTS_OFFSET: usize = 16 + 8 * Superblock::FIELDS;
+    pub const EXTENTS_OFFSET: usize = Superblock::FIELDS_OFFSET + 8 * Superblock::FIELDS;
 
     pub const ENCODED_LEN: usize = Superblock::EXTENTS_OFFSET
         + 16 * Superblock::MAX_ZERO_EXTENTS as usize;
@@ -119,7 +78,7 @@ impl Superblock {
         requires { k < 18 }
         ensures { result ≡ field_offset k }
     {
-        16 + 8 * k
+        Superblock::FIELDS_OFFSET + 8 * k
     }
 
     fn fields(self) -> [u64; Superblock::FIELDS]
@@ -147,10 +106,40 @@ impl Superblock {
         ]
     }
 
+    // The block of the fields in that order, and of what stands before them.
+    fn of_fields(magic: u64, version: u32, sqlite_page_size: u32, fields: &[u64]) -> Superblock
+        requires { 18 ≤ length fields.now }
+        ensures { result ≡ of_fields magic version sqlite_page_size fields.now }
+    {
+        Superblock {
+            magic,
+            version,
+            sqlite_page_size,
+            db_size: fields[0],
+            schema_version: fields[1],
+            last_tx_id: fields[2],
+            flags: fields[3],
+            checksum: fields[4],
+            import_expected_checksum: fields[5],
+            import_written_until: fields[6],
+            import_total_size: fields[7],
+            import_base_offset: fields[8],
+            checksum_refresh_offset: fields[9],
+            checksum_refresh_hash: fields[10],
+            checksum_refresh_tx_id: fields[11],
+            db_base_offset: fields[12],
+            page_table_offset: fields[13],
+            page_count: fields[14],
+            layout_version: fields[15],
+            zero_extent_count: fields[16],
+            meta_checksum: fields[Superblock::META_CHECKSUM],
+        }
+    }
+
     pub fn encoded_len(self) -> usize
         ensures { result ≡ encoded_len self }
     {
-        let runs = least(self.zero_extent_count, Superblock::MAX_ZERO_EXTENTS);
+        let runs = self.zero_extent_count.min(Superblock::MAX_ZERO_EXTENTS);
         Superblock::EXTENTS_OFFSET + (runs as usize) * 16
     }
 
@@ -159,12 +148,11 @@ impl Superblock {
         requires { length out.old ≡ 16544 }
         ensures { out.new ≡ overwrite 0 (block_bytes self runs.now) out.old }
     {
-        let fields = self.fields();
-        let sizes = (self.version as u64) + (self.sqlite_page_size as u64) * 0x1_0000_0000;
+        let sizes = u64::from(self.version) + u64::from(self.sqlite_page_size) * 0x1_0000_0000;
         write_word(out, 0, self.magic);
         write_word(out, 8, sizes);
-        write_fields(out, &fields);
-        let fit = least(runs.len() as u64, 2 * Superblock::MAX_ZERO_EXTENTS) as usize;
+        write_words(out, Superblock::FIELDS_OFFSET, &self.fields());
+        let fit = runs.len().min(2 * Superblock::MAX_ZERO_EXTENTS as usize);
         write_words(out, Superblock::EXTENTS_OFFSET, &runs[..fit]);
     }
 
@@ -173,40 +161,24 @@ impl Superblock {
         requires { 160 ≤ length bytes.now }
         ensures { result ≡ decoded bytes.now }
     {
-        let f = read_fields(bytes);
         let sizes = read_word(bytes, 8);
-        Superblock {
-            magic: read_word(bytes, 0),
-            version: (sizes % 0x1_0000_0000) as u32,
-            sqlite_page_size: (sizes / 0x1_0000_0000) as u32,
-            db_size: f[0],
-            schema_version: f[1],
-            last_tx_id: f[2],
-            flags: f[3],
-            checksum: f[4],
-            import_expected_checksum: f[5],
-            import_written_until: f[6],
-            import_total_size: f[7],
-            import_base_offset: f[8],
-            checksum_refresh_offset: f[9],
-            checksum_refresh_hash: f[10],
-            checksum_refresh_tx_id: f[11],
-            db_base_offset: f[12],
-            page_table_offset: f[13],
-            page_count: f[14],
-            layout_version: f[15],
-            zero_extent_count: f[16],
-            meta_checksum: f[Superblock::META_CHECKSUM],
-        }
+        let fields: [u64; Superblock::FIELDS] = read_words(bytes, Superblock::FIELDS_OFFSET);
+        Superblock::of_fields(
+            read_word(bytes, 0),
+            (sizes % 0x1_0000_0000) as u32,
+            (sizes / 0x1_0000_0000) as u32,
+            &fields,
+        )
     }
 
     fn sealed_by(self, checksum: u64) -> Superblock
         ensures { result ≡ sealed_by checksum self }
     {
-        let mut out = self;
-        out.version = Superblock::VERSION;
-        out.meta_checksum = checksum;
-        out
+        Superblock {
+            version: Superblock::VERSION,
+            meta_checksum: checksum,
+            ..self
+        }
     }
 
     // The block with its checksum, in an array of zeros.
@@ -228,7 +200,6 @@ impl Superblock {
         ensures { result ≡ freshBlock }
     {
         let mut bytes = [0u8; Superblock::ENCODED_LEN];
-        let none = [0u64; 1];
         let block = Superblock {
             magic: Superblock::MAGIC,
             version: Superblock::VERSION,
@@ -252,7 +223,7 @@ impl Superblock {
             zero_extent_count: 0,
             meta_checksum: 0,
         };
-        block.seal(&none[..0], &mut bytes)
+        block.seal(&[], &mut bytes)
     }
 
     // A block is built in a zeroed array of 16,544 bytes; as many of them as it has are stored, and hashed.
@@ -266,33 +237,16 @@ impl Superblock {
         block
     }
 
-    // The block as a list of numbers: magic, version, page size, then the fields.
+    // The block as a list of numbers: magic, version, page size, then the fields. By name, here and below: a `From` would not say which numbers.
     pub fn numbers(self) -> [u64; Superblock::NUMBERS]
         ensures { result ≡ numbers_of self }
     {
-        [
-            self.magic,
-            self.version as u64,
-            self.sqlite_page_size as u64,
-            self.db_size,
-            self.schema_version,
-            self.last_tx_id,
-            self.flags,
-            self.checksum,
-            self.import_expected_checksum,
-            self.import_written_until,
-            self.import_total_size,
-            self.import_base_offset,
-            self.checksum_refresh_offset,
-            self.checksum_refresh_hash,
-            self.checksum_refresh_tx_id,
-            self.db_base_offset,
-            self.page_table_offset,
-            self.page_count,
-            self.layout_version,
-            self.zero_extent_count,
-            self.meta_checksum,
-        ]
+        let mut numbers = [0; Superblock::NUMBERS];
+        numbers[0] = self.magic;
+        numbers[1] = u64::from(self.version);
+        numbers[2] = u64::from(self.sqlite_page_size);
+        numbers[3..].copy_from_slice(&self.fields());
+        numbers
     }
 
     // The block of such a list; of the version and the page size the low 32 bits count.
@@ -300,28 +254,11 @@ impl Superblock {
         requires { 21 ≤ length n.now }
         ensures { result ≡ of_numbers n.now }
     {
-        Superblock {
-            magic: n[0],
-            version: (n[1] % 0x1_0000_0000) as u32,
-            sqlite_page_size: (n[2] % 0x1_0000_0000) as u32,
-            db_size: n[3],
-            schema_version: n[4],
-            last_tx_id: n[5],
-            flags: n[6],
-            checksum: n[7],
-            import_expected_checksum: n[8],
-            import_written_until: n[9],
-            import_total_size: n[10],
-            import_base_offset: n[11],
-            checksum_refresh_offset: n[12],
-            checksum_refresh_hash: n[13],
-            checksum_refresh_tx_id: n[14],
-            db_base_offset: n[15],
-            page_table_offset: n[16],
-            page_count: n[17],
-            layout_version: n[18],
-            zero_extent_count: n[19],
-            meta_checksum: n[20],
-        }
+        Superblock::of_fields(
+            n[0],
+            (n[1] % 0x1_0000_0000) as u32,
+            (n[2] % 0x1_0000_0000) as u32,
+            &n[3..],
+        )
     }
 }

@@ -1,14 +1,17 @@
 -- The tests of a superblock's bytes at opening.
-use Rattle.std.specs.Prelude.{ℕ, Bool, true, false, List, take, drop, leb, eqb}
+use Rattle.std.specs.Prelude.{ℕ, Bool, true, false, List, take, drop, leb, eqb, Result, Ok, Err}
+use Rattle.config.specs.declared.refusal.Refusal.{Refusal}
 use Rattle.config.specs.declared.refusal.Refusal.TheVariants.{ForeignStableMemoryImage, UnsupportedLayoutVersion, MetaChecksumMismatch}
 use Rattle.memory.specs.Bytes.{zeros, overwrite}
 use Rattle.meta.specs.declared.superblock.Superblock.{Superblock}
 use Rattle.meta.specs.declared.ZeroExtent.{ZeroExtent}
-use Rattle.meta_load.specs.declared.Loaded.{Loaded}
-use Rattle.meta_load.specs.declared.Loaded.TheVariants.{Block, Refused}
 use Rattle.fnv.specs.Fnv.{fnv1a64}
 use Rattle.meta.specs.Runs.{runs_in, normalized}
 use Rattle.meta.specs.Block.{magic, decode, encoded_len, checksum_offset}
+
+-- the block, or 1, 2 or 3
+abbrev pub Loaded : Type 0
+Loaded = Result Superblock Refusal
 
 -- the runs of the block in some bytes
 unfoldable pub block_runs : List ℕ → List ZeroExtent
@@ -31,12 +34,12 @@ judge b sum sorted =
     (pick (eqb b.layout_version 8)
     (pick (leb b.zero_extent_count 1024)
     (pick (eqb b.meta_checksum sum)
-    (pick sorted (Block b) (Refused MetaChecksumMismatch))
-    (Refused MetaChecksumMismatch))
-    (Refused MetaChecksumMismatch))
-    (Refused (UnsupportedLayoutVersion b.layout_version)))
-    (Refused (UnsupportedLayoutVersion b.version)))
-    (Refused ForeignStableMemoryImage)
+    (pick sorted (Ok b) (Err MetaChecksumMismatch))
+    (Err MetaChecksumMismatch))
+    (Err MetaChecksumMismatch))
+    (Err (UnsupportedLayoutVersion b.layout_version)))
+    (Err (UnsupportedLayoutVersion b.version)))
+    (Err ForeignStableMemoryImage)
 
 unfoldable pub load : List ℕ → Loaded
 load bs = judge (decode bs) (checksum_in bs) (normalized (block_runs bs))

@@ -1,5 +1,5 @@
 -- Laws of the tests at opening.
-use Rattle.std.specs.Prelude.{◌≡◌, List, Bool, take, drop}
+use Rattle.std.specs.Prelude.{◌≡◌, List, Bool, take, drop, Ok, Err}
 use Rattle.std.proofs.Common.{sym, ◌∙◌, take-take, get_or-take}
 use Rattle.std.proofs.Math.Path.{ap}
 use Prim.Native.Nat.{ℕ, ◌+◌, ◌-◌, ◌*◌, ◌/◌, ◌≤◌, ◌<◌}
@@ -10,7 +10,6 @@ use Rattle.memory.specs.Bytes.{zeros, overwrite}
 use Rattle.memory.specs.Laws.{overwrite_mid, length-zeros, drop-take}
 use Rattle.config.specs.declared.refusal.Refusal.TheVariants.{ForeignStableMemoryImage, UnsupportedLayoutVersion, MetaChecksumMismatch}
 use Rattle.meta.specs.declared.superblock.Superblock.{Superblock}
-use Rattle.meta_load.specs.declared.Loaded.TheVariants.{Block, Refused}
 use Rattle.meta.specs.Runs.{runs_in, runs_in-alike, normalized}
 use Rattle.meta.specs.Block.{magic, decode, encoded_len, checksum_offset, offset_is}
 use Rattle.meta_load.specs.Load.{block_runs, checksum_in, pick, judge, load}
@@ -31,31 +30,31 @@ pub runs_in-take : (n : ℕ) (l : List ℕ) → runs_in n (take (n * 16) l) ≡ 
 runs_in-take n l = runs_in-alike n (take (n * 16) l) l (λ i h. get_or-take (n * 16) l i 0 h)
 
 module _ (b : Superblock) (sum : ℕ) (sorted : Bool) where
-  pub judge_foreign : (b.magic ≡ magic → ⊥) → judge b sum sorted ≡ Refused ForeignStableMemoryImage
+  pub judge_foreign : (b.magic ≡ magic → ⊥) → judge b sum sorted ≡ Err ForeignStableMemoryImage
   unfolding judge
   judge_foreign h = rw (ne_eqb b.magic magic h)
 
   module _ (m : b.magic ≡ magic) where
-    pub judge_version : (b.version ≡ 8 → ⊥) → judge b sum sorted ≡ Refused (UnsupportedLayoutVersion b.version)
+    pub judge_version : (b.version ≡ 8 → ⊥) → judge b sum sorted ≡ Err (UnsupportedLayoutVersion b.version)
     unfolding judge
     judge_version h = rw (eq-eqb b.magic magic m, ne_eqb b.version 8 h)
 
     module _ (v : b.version ≡ 8) where
-      pub judge_layout : (b.layout_version ≡ 8 → ⊥) → judge b sum sorted ≡ Refused (UnsupportedLayoutVersion b.layout_version)
+      pub judge_layout : (b.layout_version ≡ 8 → ⊥) → judge b sum sorted ≡ Err (UnsupportedLayoutVersion b.layout_version)
       unfolding judge
       judge_layout h = rw (eq-eqb b.magic magic m, eq-eqb b.version 8 v, ne_eqb b.layout_version 8 h)
 
       module _ (l : b.layout_version ≡ 8) where
-        pub judge_count : 1024 < b.zero_extent_count → judge b sum sorted ≡ Refused MetaChecksumMismatch
+        pub judge_count : 1024 < b.zero_extent_count → judge b sum sorted ≡ Err MetaChecksumMismatch
         unfolding judge
         judge_count h = rw (eq-eqb b.magic magic m, eq-eqb b.version 8 v, eq-eqb b.layout_version 8 l, lt-leb b.zero_extent_count 1024 h)
 
         module _ (n : b.zero_extent_count ≤ 1024) where
-          pub judge_sum : (b.meta_checksum ≡ sum → ⊥) → judge b sum sorted ≡ Refused MetaChecksumMismatch
+          pub judge_sum : (b.meta_checksum ≡ sum → ⊥) → judge b sum sorted ≡ Err MetaChecksumMismatch
           unfolding judge
           judge_sum h = rw (eq-eqb b.magic magic m, eq-eqb b.version 8 v, eq-eqb b.layout_version 8 l, le-leb b.zero_extent_count 1024 n, ne_eqb b.meta_checksum sum h)
 
-          pub judge_runs : b.meta_checksum ≡ sum → judge b sum sorted ≡ pick sorted (Block b) (Refused MetaChecksumMismatch)
+          pub judge_runs : b.meta_checksum ≡ sum → judge b sum sorted ≡ pick sorted (Ok b) (Err MetaChecksumMismatch)
           unfolding judge
           judge_runs h = rw (eq-eqb b.magic magic m, eq-eqb b.version 8 v, eq-eqb b.layout_version 8 l, le-leb b.zero_extent_count 1024 n, eq-eqb b.meta_checksum sum h)
 

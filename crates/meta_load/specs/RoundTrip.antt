@@ -1,5 +1,5 @@
 -- Encoding and decoding undo each other, and a block that was stored is accepted again.
-use Rattle.std.specs.Prelude.{◌≡◌, true}
+use Rattle.std.specs.Prelude.{◌≡◌, true, Ok}
 use Rattle.std.proofs.Math.Path.{refl, sym, ap, subst}
 use Rattle.std.proofs.Common.{◌∙◌, mod-lt, ext_get_or, drop-drop, take-add}
 use mathlib.Core.List.{List, [], ◌∷◌, ◌++◌, append_assoc, append-nil}
@@ -7,10 +7,9 @@ use Prim.Native.Nat.{ℕ, zero, suc, ◌+◌, ◌-◌, ◌*◌, ◌≤◌, ◌<�
 use native.Mathlib.Omega.{arith}
 use Rattle.std.proofs.Math.ListN.{length, get_or, take, drop, length-take, length-drop}
 use Rattle.std.proofs.Math.Seq.{get_or-take, get_or-drop, drop_at}
-use Rattle.memory.specs.Bytes.{zeros, overwrite, resize}
+use Rattle.memory.specs.Bytes.{zeros, overwrite, resize, filled}
 use Rattle.memory.specs.Laws.{append_at, resize_in, overwrite_in, length-zeros, take-overwrite, take-resize, overwrite-take}
 use Rattle.meta.specs.declared.superblock.Superblock.{Superblock}
-use Rattle.meta_load.specs.declared.Loaded.TheVariants.{Block}
 use Rattle.words.specs.Words.{le, de, de_le, de_alike, le_de, length-le, word, words, word_at, words_in, word_at_word, word_at-drop, word_at_alike, length-word, Bytes, bytes_drop}
 use Rattle.fnv.specs.Fnv.{step, fold, fnv1a64, basis}
 use Rattle.meta.specs.Runs.{run, runs_of, runs_in, runs_in-alike, normalized}
@@ -248,7 +247,7 @@ module _ (b : Superblock) (runs mem : List ℕ) (fits : Fits b) (lent : 16544 �
       ∙ decode_encode (seal b runs) runs (seal_fits b runs fits)
 
   zero_word : zeros 8 ≡ word 0
-  unfolding zeros word
+  unfolding filled word
   zero_word = refl
 
   -- with the checksum field as 0 they are the bytes that were hashed
@@ -289,7 +288,7 @@ module _ (b : Superblock) (runs mem : List ℕ) (fits : Fits b) (lent : 16544 �
         ∙ runs_encode (seal b runs) runs n few count wide
 
     -- 01's tests 1 to 3 pass on what was stored, whatever memory held before
-    pub stored_accepted : b.magic ≡ magic → b.layout_version ≡ 8 → normalized (runs_of runs) ≡ true → load (store_in b runs mem) ≡ Block (seal b runs)
+    pub stored_accepted : b.magic ≡ magic → b.layout_version ≡ 8 → normalized (runs_of runs) ≡ true → load (store_in b runs mem) ≡ Ok (seal b runs)
     unfolding seal
     stored_accepted m l sorted =
         load_is (store_in b runs mem) (seal b runs) (sym decode_stored)

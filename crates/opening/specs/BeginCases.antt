@@ -6,7 +6,7 @@ use Rattle.config.specs.declared.refusal.Refusal.TheVariants.{ImportAlreadyStart
 use Rattle.update.specs.Update.{fresh}
 use Rattle.update.specs.Buffers.{overlay_of}
 use Rattle.store.specs.declared.State.{State}
-use Rattle.store.specs.declared.Answer.TheVariants.{Size, Refused}
+use Rattle.store.specs.Answers.{Size, Refused}
 use Rattle.store.specs.Codec.{real_codec}
 use Rattle.store.specs.Blocks.{importing}
 use Rattle.store.specs.Calls.{begin, Lent, out, mode_if, mode_of, short}

@@ -1,12 +1,21 @@
 -- Opening: the answer with the state and memory that it leaves.
-use Rattle.std.specs.Prelude.{ℕ, ◌+◌, Bool, ◌&&◌, ◌||◌, ltb, List}
-use Rattle.store.specs.declared.Step.{Step}
+use Rattle.std.specs.Prelude.{ℕ, ◌+◌, Bool, ◌&&◌, ◌||◌, ltb, List, Result, Ok, Err}
+use Rattle.store.specs.declared.State.{State}
+use Rattle.config.specs.declared.refusal.Refusal.{Refusal}
+use Rattle.store.specs.Answers.{Answer, Done, Refused}
+use Rattle.store.specs.Codec.{real_codec}
+use Rattle.store.specs.Store.{ended}
 use Rattle.meta.specs.declared.superblock.Superblock.{Superblock}
 use Rattle.store.specs.Blocks.{importing}
-use Rattle.store.specs.Opening.{Opened}
+use Rattle.store.specs.Opening.{Opened, no_block}
 
-abbrev pub opened : Step → List ℕ → Opened
-opened r m = record { state = r.state; answer = r.answer; mem = m }
+abbrev pub opened : State → Answer → List ℕ → Opened
+opened s a m = record { state = s; answer = a; mem = m }
+
+-- what 01's opening answers, given the count n: a state, or a refusal that leaves none
+abbrev pub opened_as : ℕ → Result State Refusal → List ℕ → Opened
+opened_as n (Ok s) m = opened s Done m
+opened_as n (Err r) m = opened (ended 16384 65536 8 1024 18446744073709551615 real_codec n no_block) (Refused r) m
 
 -- 4 by the end of memory
 abbrev pub import_outside : ℕ → Superblock → Bool

@@ -1,32 +1,29 @@
 // The begin of an update.
+ghost use Rattle.store.specs.Answers.{answered, Size};
 ghost use Rattle.store.specs.Calls.{begin};
 ghost use Rattle.lending.specs.Lending.{Alone};
 
 use config::Refusal;
-use store::{Answer, State, Step};
-use transfer::step;
+use store::State;
 use update::Overlay;
 
-// "Beginning an update tests 10, then 13." A budget of pages and bytes counts where it is `limited`.
-pub fn begin_update(s: State, limited: bool, max_pages: u64, max_bytes: u64) -> Step
-    ensures { Alone s (begin limited max_pages max_bytes) result.state result.answer }
+// "Beginning an update tests 10, then 13." A budget of pages and bytes counts where it is `limited`. The file's size.
+pub fn begin_update(
+    s: &mut State,
+    limited: bool,
+    max_pages: u64,
+    max_bytes: u64,
+) -> Result<u64, Refusal>
+    ensures { Alone s.old (begin limited max_pages max_bytes) s.new (answered Size result) }
 {
-    let count = s.count;
-    let block = s.block;
-    if blocks::is_importing(block) {
-        return step::refuse(s, Refusal::ImportAlreadyStarted);
+    if blocks::is_importing(s.block) {
+        return Err(Refusal::ImportAlreadyStarted);
     }
     if s.updating {
-        return step::refuse(s, Refusal::UpdateBegunTwice);
+        return Err(Refusal::UpdateBegunTwice);
     }
     let budget = lending::budget_of(limited, max_pages, max_bytes);
-    Step {
-        state: State {
-            count,
-            block,
-            updating: true,
-            overlay: Overlay::new(block.db_size, budget),
-        },
-        answer: Answer::Size(block.db_size),
-    }
+    s.updating = true;
+    s.overlay = Overlay::new(s.block.db_size, budget);
+    Ok(s.block.db_size)
 }

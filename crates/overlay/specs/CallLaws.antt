@@ -1,5 +1,5 @@
 -- The calls by their first tests: what is left is said of the settled overlay.
-use Rattle.std.specs.Prelude.{◌≡◌, true, false, not, List}
+use Rattle.std.specs.Prelude.{◌≡◌, true, false, not, List, Ok, Err}
 use Rattle.std.proofs.Math.Path.{sym, ap}
 use Rattle.std.proofs.Common.{◌∙◌}
 use Prim.Native.Nat.{ℕ, ◌+◌, ◌/◌, ◌≤◌, ◌<◌, max}
@@ -9,7 +9,6 @@ use Rattle.config.specs.declared.refusal.Refusal.{Refusal}
 use Rattle.config.specs.declared.refusal.Refusal.TheVariants.{OffsetOverflow, BufferTooShort}
 use Rattle.update.specs.declared.Overlay.{Overlay}
 use Rattle.update.specs.declared.Image.{Image}
-use Rattle.update.specs.declared.Verdict.TheVariants.{Accepted, Refused}
 use Rattle.update.specs.Pages.{span}
 use Rattle.update.specs.Image.{image_in}
 use Rattle.update.specs.Update.{Over, whole_page, copy, Tried, accepted, refused, and_then, keep_size, try_touch_all, try_grow_to, try_truncate, truncate_reach, try_write}
@@ -39,7 +38,7 @@ module _ (P C : ℕ) (pos : 0 < P) (M : ℕ) (i : Image) (mem : List ℕ) (v : O
 
   -- ## Truncation
 
-  pub truncate_short : (n : ℕ) → short_buffers P C v l ≡ true → laid v l (Refused BufferTooShort) ≡ truncate_to P C M i mem v l n
+  pub truncate_short : (n : ℕ) → short_buffers P C v l ≡ true → laid v l (Err BufferTooShort) ≡ truncate_to P C M i mem v l n
   unfolding truncate_to
   truncate_short n t = rw t
 
@@ -53,16 +52,16 @@ module _ (P C : ℕ) (pos : 0 < P) (M : ℕ) (i : Image) (mem : List ℕ) (v : O
   -- ## Writes
 
   module _ (o : ℕ) (bs : List ℕ) where
-    pub write_short : short_buffers P C v l ≡ true → laid v l (Refused BufferTooShort) ≡ write_at P C M i mem v l o bs
+    pub write_short : short_buffers P C v l ≡ true → laid v l (Err BufferTooShort) ≡ write_at P C M i mem v l o bs
     unfolding write_at
     write_short t = rw t
 
     module _ (f : short_buffers P C v l ≡ false) where
-      pub write_empty : length bs ≡ 0 → laid W l Accepted ≡ write_at P C M i mem v l o bs
+      pub write_empty : length bs ≡ 0 → laid W l (Ok tt) ≡ write_at P C M i mem v l o bs
       unfolding write_at try_write settle
       write_empty e = rw (f, eq-eqb (length bs) 0 e) (sym (accepted_same P C pos W l (settle_fits P C v l f) 0) ∙ settle_change v.dirty accepted)
 
-      pub write_over : (length bs ≡ 0 → ⊥) → M < o + length bs → laid W l (Refused OffsetOverflow) ≡ write_at P C M i mem v l o bs
+      pub write_over : (length bs ≡ 0 → ⊥) → M < o + length bs → laid W l (Err OffsetOverflow) ≡ write_at P C M i mem v l o bs
       unfolding write_at try_write settle
       write_over n h = rw (f, ne_eqb (length bs) 0 n, lt-ltb M (o + length bs) h) (sym (refused_same P C pos W l (settle_fits P C v l f) 0 OffsetOverflow) ∙ settle_change v.dirty (refused OffsetOverflow))
 
@@ -74,10 +73,10 @@ module _ (P C : ℕ) (pos : 0 < P) (M : ℕ) (i : Image) (mem : List ℕ) (v : O
       write_is n h = rw (f, ne_eqb (length bs) 0 n, le-ltb M (o + length bs) h) (settle_change v.dirty (λ x. keep_size v.size (T x)))
 
       module _ (n : length bs ≡ 0 → ⊥) (h : o + length bs ≤ M) (v1 : Overlay) (l1 : Buffers) where
-        pub write_done : wrote P C M i mem W l o bs ≡ laid v1 l1 Accepted → laid v1 l1 Accepted ≡ write_at P C M i mem v l o bs
+        pub write_done : wrote P C M i mem W l o bs ≡ laid v1 l1 (Ok tt) → laid v1 l1 (Ok tt) ≡ write_at P C M i mem v l o bs
         unfolding wrote settle
         write_done e = sym (keep_accepted P C pos W l (settle_fits P C v l f) v.size v.dirty (T (view P C W l)) v1 l1 e) ∙ write_is n h
 
-        pub write_refused : (r : Refusal) → wrote P C M i mem W l o bs ≡ laid v1 l1 (Refused r) → laid (with_size v.size v1) l1 (Refused r) ≡ write_at P C M i mem v l o bs
+        pub write_refused : (r : Refusal) → wrote P C M i mem W l o bs ≡ laid v1 l1 (Err r) → laid (with_size v.size v1) l1 (Err r) ≡ write_at P C M i mem v l o bs
         unfolding wrote settle
         write_refused r e = sym (keep_refused P C pos W l (settle_fits P C v l f) v.size v.dirty (T (view P C W l)) v1 l1 r e) ∙ write_is n h

@@ -1,18 +1,18 @@
 -- Reads as the code does them: a part of a page from where it lies, pages one behind the other, and what lies past the size.
-use Rattle.std.specs.Prelude.{◌≡◌, Bool, cond, ◌||◌, ltb, drop}
+use Rattle.std.specs.Prelude.{◌≡◌, Bool, cond, ◌||◌, ltb, eqb, drop, Ok, Err}
 use Rattle.std.proofs.Math.Path.{refl, sym, ap}
-use Rattle.std.proofs.Common.{◌∙◌, subst, suc-mul, div-add-mod', ext_get_or, le-leb, eq-eqb, ne_eqb}
-use Prim.Native.Nat.{ℕ, zero, suc, ◌+◌, ◌-◌, ◌*◌, ◌/◌, ◌%◌, ◌≤◌, ◌<◌, max}
+use Rattle.std.proofs.Common.{◌∙◌, subst, suc-mul, div-add-mod', ext_get_or, le-leb, eq-eqb, ne_eqb, eqb-true}
+use Prim.Native.Nat.{ℕ, zero, suc, ◌+◌, ◌-◌, ◌*◌, ◌/◌, ◌%◌, ◌≤◌, ◌<◌, min, max}
 use Rattle.std.proofs.Math.Nat.{mul-le-mul_right}
 use native.Mathlib.Omega.{arith}
 use Rattle.std.proofs.Math.Bool.{true, false, or-true}
 use mathlib.Core.List.{List, [], ◌∷◌, ◌++◌}
 use Rattle.std.proofs.Math.ListN.{length, take, get_or, length-append, length-drop}
 use Rattle.std.proofs.Math.Seq.{length-take-le, drop-append-le}
-use Rattle.std.proofs.lemmas.Bool.{lt-leb}
+use Rattle.std.proofs.lemmas.Bool.{lt-leb, eqb-false}
 use Rattle.config.specs.Pages.{page_at}
 use Rattle.config.specs.declared.refusal.Refusal.TheVariants.{BufferTooShort}
-use Rattle.memory.specs.Bytes.{zeros, resize}
+use Rattle.memory.specs.Bytes.{zeros, filled, resize}
 use Rattle.memory.specs.Laws.{split, append_at}
 use Rattle.meta.specs.Runs.{numbers_of}
 use Rattle.runs.specs.Flat.{runs_in}
@@ -27,7 +27,7 @@ use Rattle.update.specs.PageLaws.{Sized, byte_clean, pages_in-sized, flat-length
 use Rattle.update.specs.Image.{image_in, image_page}
 use Rattle.update.specs.Update.{Over, raw, look_up, read_over, read_bytes}
 use Rattle.update.specs.Buffers.{Buffers, frame_count, entry_count, cached, settled, clean_pages, short_buffers, view, overlay_of, put_back}
-use Rattle.update.specs.Frames.{CacheOut, cache_laid, inserted}
+use Rattle.update.specs.Frames.{CacheOut, cache_out, cache_laid, inserted}
 use Rattle.update.specs.Laid.{bufs, Fits, settle, CleanSeen, clean_seen, clean_read}
 use Rattle.update.specs.Rooms.{Room, read_room}
 use Rattle.update.specs.BufferLaws.{view_put, view_size, length-cached_put, settled_put}
@@ -36,9 +36,7 @@ use Rattle.update.specs.Chunks.{look_same, read_join, bytes_join, read_past, byt
 use Rattle.update.specs.TouchLaws.{place_in, few_numbers, overlay_view, put_view, place_held, place_free, frame_held, dirty_view}
 use Rattle.update.specs.SettleLaws.{settle_view, settle_fits, cached_settled}
 use Rattle.pool.specs.CacheLaws.{settled_count, settled_most}
-use Rattle.overlay_reads.specs.declared.Reading.{Reading}
-use Rattle.overlay_reads.specs.declared.Reading.TheVariants.{Full, Short}
-use Rattle.overlay_reads.specs.declared.Reading.TheVariants.{Refused as Unread}
+use Rattle.overlay_reads.specs.Reads.{Reading}
 use Rattle.overlay_reads.specs.Reads.{Seen, seen, reading, showing, page_read, range_read, read_at}
 use Rattle.update.specs.ImageLaws.{length-image_page}
 
@@ -131,6 +129,12 @@ module _ (P C : ℕ) (pos : 0 < P) (some : 0 < C) (c : CleanCache) (l : List ℕ
       (λ j u. byte_clean P pos held (p * P + k + j) _ (rw (page_of j u) f) ∙ sym (taken_at j u)) in
       rw (clean_read, f, e)
 
+  -- the same, by what the cache and its frames are then: the page lies in the last of them in use
+  pub miss_shown : (c' : CleanCache) (l' : List ℕ) → cache_out c' l' ≡ taken → c.count ≤ place_of (cached P C c) p
+      → (c'.count - 1 < C) × (((c'.count - 1) * P + k + n ≤ length l') × (clean_seen c' l' (take n (drop ((c'.count - 1) * P + k) l')) ≡ clean_read P C c l b p k n))
+  miss_shown c' l' e h = subst (λ (y : CacheOut). (y.cache.count - 1 < C) × (((y.cache.count - 1) * P + k + n ≤ length y.clean) × (clean_seen y.cache y.clean (take n (drop ((y.cache.count - 1) * P + k) y.clean)) ≡ clean_read P C c l b p k n)))
+      (sym e) (omega (arith, taken_few), (omega (arith, taken-length, miss_fits), sym (read_miss h)))
+
 -- ## A part of a page
 
 -- an overlay with another cache
@@ -170,12 +174,12 @@ module _ (P C : ℕ) (pos : 0 < P) (some : 0 < C) (i : Image) (mem : List ℕ) (
   module _ (o n : ℕ) where
     -- a page that is there is not looked up
     page_same : (holds w.dirty (o / P) || (covers w.recorded (o / P) || holds w.cache (o / P))) ≡ true
-        → page_read P C i mem v l o n ≡ seen v l (tabulate_from o n (raw P b w)) Full
+        → page_read P C i mem v l o n ≡ seen v l (tabulate_from o n (raw P b w)) (Ok true)
     unfolding page_read
-    page_same e = ap (λ (x : Over). showing P C i mem v l x (tabulate_from o n (raw P b w)) Full) (look_same P C pos some b (o / P) w e) ∙ shown_same (tabulate_from o n (raw P b w)) Full
+    page_same e = ap (λ (x : Over). showing P C i mem v l x (tabulate_from o n (raw P b w)) (Ok true)) (look_same P C pos some b (o / P) w e) ∙ shown_same (tabulate_from o n (raw P b w)) (Ok true)
 
     -- from its frame
-    pub read_dirty : o % P + n ≤ P → place_in v l (o / P) < v.dirty → page_read P C i mem v l o n ≡ seen v l (take n (drop (place_in v l (o / P) * P + o % P) l.frames)) Full
+    pub read_dirty : o % P + n ≤ P → place_in v l (o / P) < v.dirty → page_read P C i mem v l o n ≡ seen v l (take n (drop (place_in v l (o / P) * P + o % P) l.frames)) (Ok true)
     unfolding raw
     read_dirty h k =
         let t : holds w.dirty (o / P) ≡ true = place_held P C pos v l fits (o / P) k in
@@ -189,7 +193,7 @@ module _ (P C : ℕ) (pos : 0 < P) (some : 0 < C) (i : Image) (mem : List ℕ) (
         let q : (o + j) % P ≡ o % P + j = same_place P pos o j (omega arith) in
         ap (λ (d : List Page). page_byte P d (o + j) (cond (covers w.recorded ((o + j) / P)) 0 (page_byte P w.cache (o + j) (b (o + j))))) (dirty_view P C pos v l fits)
         ∙ byte_place P ns l.frames (o + j) _ pos (rw (p, len) k) ∙ rw (p, q) (ap (λ (x : ℕ). get_or l.frames x 0) (omega arith))) in
-        page_same (rw t) ∙ ap (λ (x : List ℕ). seen v l x Full) e
+        page_same (rw t) ∙ ap (λ (x : List ℕ). seen v l x (Ok true)) e
 
     module _ (h : o % P + n ≤ P) (free : v.dirty ≤ place_in v l (o / P)) where
       not_dirty : holds w.dirty (o / P) ≡ false
@@ -206,14 +210,14 @@ module _ (P C : ℕ) (pos : 0 < P) (some : 0 < C) (i : Image) (mem : List ℕ) (
           byte_clean P pos w.dirty (o + j) _ (rw p not_dirty) ∙ rw p
 
       -- zeros
-      pub read_covered : covers (runs_in v.recorded l.recs) (o / P) ≡ true → page_read P C i mem v l o n ≡ seen v l (zeros n) Full
+      pub read_covered : covers (runs_in v.recorded l.recs) (o / P) ≡ true → page_read P C i mem v l o n ≡ seen v l (zeros n) (Ok true)
       read_covered c =
           let t : covers w.recorded (o / P) ≡ true = rw record_is c in
-          page_same (rw (not_dirty, t)) ∙ ap (λ (x : List ℕ). seen v l x Full) (none_of o n (raw P b w) (λ j u. raw_free j u ∙ rw t))
+          page_same (rw (not_dirty, t)) ∙ ap (λ (x : List ℕ). seen v l x (Ok true)) (none_of o n (raw P b w) (λ j u. raw_free j u ∙ rw t))
 
       -- a clean page
       pub read_uncovered : covers (runs_in v.recorded l.recs) (o / P) ≡ false → (p k : ℕ) → p ≡ o / P → k ≡ o % P → (x : CleanSeen) → x ≡ clean_read P C v.cache l.clean (image_in P i mem) p k n
-          → seen (with_cache v x.cache) (bufs l.frames l.numbers x.clean l.recs) x.bytes Full ≡ page_read P C i mem v l o n
+          → seen (with_cache v x.cache) (bufs l.frames l.numbers x.clean l.recs) x.bytes (Ok true) ≡ page_read P C i mem v l o n
       unfolding page_read clean_read look_up inserted view
       read_uncovered c p k g m x e =
           let d : p * P + k ≡ o = rw (g, m) (div-add-mod' o P) in
@@ -225,13 +229,13 @@ module _ (P C : ℕ) (pos : 0 < P) (some : 0 < C) (i : Image) (mem : List ℕ) (
           split (holds q p)
           (λ t.
           let f : x ≡ clean_seen v.cache l.clean (tabulate_from o n (raw P b w)) = (rw (t, bytes) at e) in
-          ap (λ (y : CleanSeen). seen (with_cache v y.cache) (bufs l.frames l.numbers y.clean l.recs) y.bytes Full) f
+          ap (λ (y : CleanSeen). seen (with_cache v y.cache) (bufs l.frames l.numbers y.clean l.recs) y.bytes (Ok true)) f
           ∙ sym (page_same (rw (not_dirty, c, ← g, t))))
           (λ f.
           let h : x ≡ clean_seen (relaid_to (inserted P C b p q)).cache (relaid_to (inserted P C b p q)).clean (tabulate_from o n (raw P b w)) = (rw (f, bytes) at e) in
-          ap (λ (y : CleanSeen). seen (with_cache v y.cache) (bufs l.frames l.numbers y.clean l.recs) y.bytes Full) h
-          ∙ sym (shown (inserted P C b p q) (tabulate_from o n (raw P b w)) Full)
-          ∙ ap (λ (y : Over). showing P C i mem v l y (tabulate_from o n (raw P b w)) Full) {y = look_up P C b (o / P) w} (rw (not_dirty, c, ← g, f)))
+          ap (λ (y : CleanSeen). seen (with_cache v y.cache) (bufs l.frames l.numbers y.clean l.recs) y.bytes (Ok true)) h
+          ∙ sym (shown (inserted P C b p q) (tabulate_from o n (raw P b w)) (Ok true))
+          ∙ ap (λ (y : Over). showing P C i mem v l y (tabulate_from o n (raw P b w)) (Ok true)) {y = look_up P C b (o / P) w} (rw (not_dirty, c, ← g, f)))
 
 -- ## Pages one behind the other
 
@@ -286,7 +290,7 @@ module _ (P C : ℕ) (pos : 0 < P) (some : 0 < C) (i : Image) (mem : List ℕ) (
 
   module _ (q : List Page) (few : length q ≤ C) (sized : Sized P q) where
     view_is : view P C (v1 q) (l1 q) ≡ recached r0 q
-    view_is = ap (λ (x : Seen). view P C x.overlay x.bufs) (sym (shown P C pos some i mem v l fits q [] Full)) ∙ view_put P C v.base_size v v.dirty (recached r0 q) l roomy.sized sized few
+    view_is = ap (λ (x : Seen). view P C x.overlay x.bufs) (sym (shown P C pos some i mem v l fits q [] (Ok true))) ∙ view_put P C v.base_size v v.dirty (recached r0 q) l roomy.sized sized few
 
     cached_is : length (cached P C (v1 q).cache) ≡ length q
     unfolding cache_laid overlay_of
@@ -317,34 +321,34 @@ module _ (P C : ℕ) (pos : 0 < P) (some : 0 < C) (i : Image) (mem : List ℕ) (
   abbrev left : ℕ → ℕ → List Page
   left o n = (read_over P C img o n r0).cache
 
-  range_shown : (o n : ℕ) → range_read P C i mem v l o n ≡ seen (v1 (left o n)) (l1 (left o n)) (read_bytes P C img o n r0) Full
+  range_shown : (o n : ℕ) → range_read P C i mem v l o n ≡ seen (v1 (left o n)) (l1 (left o n)) (read_bytes P C img o n r0) (Ok true)
   unfolding range_read
-  range_shown o n = ap (λ (x : Over). showing P C i mem v l x (read_bytes P C img o n r0) Full) (sym (read_kept P C img o n r0)) ∙ shown P C pos some i mem v l fits (left o n) (read_bytes P C img o n r0) Full
+  range_shown o n = ap (λ (x : Over). showing P C i mem v l x (read_bytes P C img o n r0) (Ok true)) (sym (read_kept P C img o n r0)) ∙ shown P C pos some i mem v l fits (left o n) (read_bytes P C img o n r0) (Ok true)
 
   room_left : (o n : ℕ) → Room P (frame_count P l) (entry_count l) C (read_over P C img o n r0)
   room_left o n = read_room P 0 (frame_count P l) (entry_count l) C img o n r0 roomy
 
-  pub range_none : (o : ℕ) → range_read P C i mem v l o 0 ≡ seen v l [] Full
+  pub range_none : (o : ℕ) → range_read P C i mem v l o 0 ≡ seen v l [] (Ok true)
   unfolding range_read
-  range_none o = shown_same P C pos some i mem v l fits [] Full
+  range_none o = shown_same P C pos some i mem v l fits [] (Ok true)
 
-  pub range_past : (o n : ℕ) → v.size ≤ o → range_read P C i mem v l o n ≡ seen v l (zeros n) Full
+  pub range_past : (o n : ℕ) → v.size ≤ o → range_read P C i mem v l o n ≡ seen v l (zeros n) (Ok true)
   unfolding range_read
   range_past o n h =
       let s : r0.size ≤ o = omega (arith, view_size P C v l) in
-      (λ j. showing P C i mem v l (read_past P C pos some img o n r0 s j) (bytes_past P C pos some img o n r0 s j) Full) ∙ shown_same P C pos some i mem v l fits (zeros n) Full
+      (λ j. showing P C i mem v l (read_past P C pos some img o n r0 s j) (bytes_past P C pos some img o n r0 s j) (Ok true)) ∙ shown_same P C pos some i mem v l fits (zeros n) (Ok true)
 
   -- bytes of one page
   pub range_page : (o n : ℕ) → 0 < n → o % P + n ≤ P → o + n ≤ v.size → page_read P C i mem v l o n ≡ range_read P C i mem v l o n
   unfolding page_read range_read
   range_page o n some' h k =
       let s : o + n ≤ r0.size = omega (arith, view_size P C v l) in
-      λ j. showing P C i mem v l (sym (read_page P C pos some img o n r0 some' h s) j) (sym (bytes_page P C pos some img o n r0 h s) j) Full
+      λ j. showing P C i mem v l (sym (read_page P C pos some img o n r0 some' h s) j) (sym (bytes_page P C pos some img o n r0 h s) j) (Ok true)
 
   -- ## What was read, and then more
 
-  module _ (o k : ℕ) (v2 : Overlay) (l2 : Buffers) (bs : List ℕ) (e : seen v2 l2 bs Full ≡ range_read P C i mem v l o k) where
-    abbrev is : seen v2 l2 bs Full ≡ seen (v1 (left o k)) (l1 (left o k)) (read_bytes P C img o k r0) Full
+  module _ (o k : ℕ) (v2 : Overlay) (l2 : Buffers) (bs : List ℕ) (e : seen v2 l2 bs (Ok true) ≡ range_read P C i mem v l o k) where
+    abbrev is : seen v2 l2 bs (Ok true) ≡ seen (v1 (left o k)) (l1 (left o k)) (read_bytes P C img o k r0) (Ok true)
     is = e ∙ range_shown o k
 
     pub range_fits : Fits P C v2 l2
@@ -385,33 +389,33 @@ module _ (P C : ℕ) (pos : 0 < P) (some : 0 < C) (i : Image) (mem : List ℕ) (
   more = subst (λ (x : Over). length read1 ≤ length x.cache) (sym (read_join P C pos some (image_in P i mem) o k n (view P C v l)))
       (read_more P C (image_in P i mem) (o + k) n (read_over P C (image_in P i mem) o k (view P C v l)) few1).0
 
-  twice : seen (v1 P C pos some i mem mid midway mid_fits read2) (l1 P C pos some i mem mid midway mid_fits read2) (read_bytes P C (image_in P i mem) o (k + n) (view P C v l)) Full ≡ range_read P C i mem v l o (k + n)
+  twice : seen (v1 P C pos some i mem mid midway mid_fits read2) (l1 P C pos some i mem mid midway mid_fits read2) (read_bytes P C (image_in P i mem) o (k + n) (view P C v l)) (Ok true) ≡ range_read P C i mem v l o (k + n)
   twice =
       let e : cache_laid P C mid.cache midway.clean read2 ≡ cache_laid P C v.cache l.clean read2 =
       clean_twice P C pos some i mem v l fits read1 few1 sized1 read2 more (room_left P C pos some i mem v l fits o (k + n)).clean in
-      ap (λ (x : CacheOut). seen (with_cache v x.cache) (bufs l.frames l.numbers x.clean l.recs) (read_bytes P C (image_in P i mem) o (k + n) (view P C v l)) Full) e
+      ap (λ (x : CacheOut). seen (with_cache v x.cache) (bufs l.frames l.numbers x.clean l.recs) (read_bytes P C (image_in P i mem) o (k + n) (view P C v l)) (Ok true)) e
       ∙ sym (range_shown P C pos some i mem v l fits o (k + n))
 
-  then : (v3 : Overlay) (l3 : Buffers) (cs : List ℕ) → seen v3 l3 cs Full ≡ range_read P C i mem mid midway (o + k) n
-      → seen v3 l3 (read_bytes P C (image_in P i mem) o k (view P C v l) ++ cs) Full ≡ range_read P C i mem v l o (k + n)
+  then : (v3 : Overlay) (l3 : Buffers) (cs : List ℕ) → seen v3 l3 cs (Ok true) ≡ range_read P C i mem mid midway (o + k) n
+      → seen v3 l3 (read_bytes P C (image_in P i mem) o k (view P C v l) ++ cs) (Ok true) ≡ range_read P C i mem v l o (k + n)
   then v3 l3 cs f =
       let bs : List ℕ = read_bytes P C (image_in P i mem) o k (view P C v l) in
       let g : bs ++ read_bytes P C (image_in P i mem) (o + k) n (view P C mid midway) ≡ read_bytes P C (image_in P i mem) o (k + n) (view P C v l) =
       ap (λ (x : Over). bs ++ read_bytes P C (image_in P i mem) (o + k) n x) mid_view ∙ sym (bytes_join P C pos some (image_in P i mem) o k n (view P C v l)) in
-      ap (λ (x : Seen). seen x.overlay x.bufs (bs ++ x.bytes) Full) (f ∙ range_shown P C pos some i mem mid midway mid_fits (o + k) n)
-      ∙ (λ j. seen (v1 P C pos some i mem mid midway mid_fits (joined j)) (l1 P C pos some i mem mid midway mid_fits (joined j)) (g j) Full)
+      ap (λ (x : Seen). seen x.overlay x.bufs (bs ++ x.bytes) (Ok true)) (f ∙ range_shown P C pos some i mem mid midway mid_fits (o + k) n)
+      ∙ (λ j. seen (v1 P C pos some i mem mid midway mid_fits (joined j)) (l1 P C pos some i mem mid midway mid_fits (joined j)) (g j) (Ok true))
       ∙ twice
 
   -- two ranges, one behind the other
-  pub range_join : (v2 : Overlay) (l2 : Buffers) (bs : List ℕ) → seen v2 l2 bs Full ≡ range_read P C i mem v l o k
-      → (v3 : Overlay) (l3 : Buffers) (cs : List ℕ) → seen v3 l3 cs Full ≡ range_read P C i mem v2 l2 (o + k) n → seen v3 l3 (bs ++ cs) Full ≡ range_read P C i mem v l o (k + n)
+  pub range_join : (v2 : Overlay) (l2 : Buffers) (bs : List ℕ) → seen v2 l2 bs (Ok true) ≡ range_read P C i mem v l o k
+      → (v3 : Overlay) (l3 : Buffers) (cs : List ℕ) → seen v3 l3 cs (Ok true) ≡ range_read P C i mem v2 l2 (o + k) n → seen v3 l3 (bs ++ cs) (Ok true) ≡ range_read P C i mem v l o (k + n)
   range_join v2 l2 bs e v3 l3 cs =
-      subst (λ (x : Seen). seen v3 l3 cs Full ≡ range_read P C i mem x.overlay x.bufs (o + k) n → seen v3 l3 (x.bytes ++ cs) Full ≡ range_read P C i mem v l o (k + n))
+      subst (λ (x : Seen). seen v3 l3 cs (Ok true) ≡ range_read P C i mem x.overlay x.bufs (o + k) n → seen v3 l3 (x.bytes ++ cs) (Ok true) ≡ range_read P C i mem v l o (k + n))
       (sym (e ∙ range_shown P C pos some i mem v l fits o k)) (then v3 l3 cs)
 
   -- a range, and then a part of one page
-  pub range_step : (v2 : Overlay) (l2 : Buffers) (bs : List ℕ) → seen v2 l2 bs Full ≡ range_read P C i mem v l o k → 0 < n → (o + k) % P + n ≤ P → o + k + n ≤ v.size
-      → (v3 : Overlay) (l3 : Buffers) (cs : List ℕ) (m : ℕ) → m ≡ n → seen v3 l3 cs Full ≡ page_read P C i mem v2 l2 (o + k) m → seen v3 l3 (bs ++ cs) Full ≡ range_read P C i mem v l o (k + n)
+  pub range_step : (v2 : Overlay) (l2 : Buffers) (bs : List ℕ) → seen v2 l2 bs (Ok true) ≡ range_read P C i mem v l o k → 0 < n → (o + k) % P + n ≤ P → o + k + n ≤ v.size
+      → (v3 : Overlay) (l3 : Buffers) (cs : List ℕ) (m : ℕ) → m ≡ n → seen v3 l3 cs (Ok true) ≡ page_read P C i mem v2 l2 (o + k) m → seen v3 l3 (bs ++ cs) (Ok true) ≡ range_read P C i mem v l o (k + n)
   range_step v2 l2 bs e some' h z v3 l3 cs m q f =
       let now : Fits P C v2 l2 = range_fits P C pos some i mem v l fits o k v2 l2 bs e in
       let same : v2.size ≡ v.size = range_size P C pos some i mem v l fits o k v2 l2 bs e in
@@ -424,7 +428,7 @@ unfolding settle
 settle_size P C v = refl
 
 module _ (P C : ℕ) (pos : 0 < P) (some : 0 < C) (i : Image) (mem : List ℕ) (v : Overlay) (l : Buffers) (o : ℕ) (d : List ℕ) where
-  pub at_short : (t : Bool) → t ≡ short_buffers P C v l → t ≡ true → seen v l d (Unread BufferTooShort) ≡ read_at P C i mem v l o d
+  pub at_short : (t : Bool) → t ≡ short_buffers P C v l → t ≡ true → seen v l d (Err BufferTooShort) ≡ read_at P C i mem v l o d
   unfolding read_at
   at_short t e h = rw (← e, h)
 
@@ -442,33 +446,61 @@ module _ (P C : ℕ) (pos : 0 < P) (some : 0 < C) (i : Image) (mem : List ℕ) (
       (read_bytes P C b o (length d) (sym s j)) (reading v.size o (length d)))
 
   module _ (lent : short_buffers P C v l ≡ false) where
-    answer : (v2 : Overlay) (l2 : Buffers) (bs : List ℕ) (r : Reading) → reading v.size o (length d) ≡ r → seen v2 l2 bs Full ≡ range_read P C i mem (settle P C v) l o (length d)
+    answer : (v2 : Overlay) (l2 : Buffers) (bs : List ℕ) (r : Reading) → reading v.size o (length d) ≡ r → seen v2 l2 bs (Ok true) ≡ range_read P C i mem (settle P C v) l o (length d)
         → seen v2 l2 bs r ≡ read_at P C i mem v l o d
     answer v2 l2 bs r h e = (λ j. seen (e j).overlay (e j).bufs (e j).bytes (sym h j)) ∙ sym (at_settled lent)
 
-    pub at_empty : length d ≡ 0 → seen (settle P C v) l d Full ≡ read_at P C i mem v l o d
-    at_empty z = answer (settle P C v) l d Full (rw (eq-eqb (length d) 0 z))
-        (ap (λ (x : List ℕ). seen (settle P C v) l x Full) (empty d z) ∙ sym (range_none P C pos some i mem (settle P C v) l (settle_fits P C v l lent) o) ∙ ap (range_read P C i mem (settle P C v) l o) (sym z))
+    pub at_empty : length d ≡ 0 → seen (settle P C v) l d (Ok true) ≡ read_at P C i mem v l o d
+    at_empty z = answer (settle P C v) l d (Ok true) (rw (eq-eqb (length d) 0 z))
+        (ap (λ (x : List ℕ). seen (settle P C v) l x (Ok true)) (empty d z) ∙ sym (range_none P C pos some i mem (settle P C v) l (settle_fits P C v l lent) o) ∙ ap (range_read P C i mem (settle P C v) l o) (sym z))
 
-    short : 0 < length d → v.size < o + length d → reading v.size o (length d) ≡ Short
+    short : 0 < length d → v.size < o + length d → reading v.size o (length d) ≡ (Ok false)
     short h k = rw (ne_eqb (length d) 0 (omega arith), lt-leb (o + length d) v.size k)
 
-    pub at_past : 0 < length d → v.size ≤ o → seen (settle P C v) l (zeros (length d)) Short ≡ read_at P C i mem v l o d
-    at_past h k = answer (settle P C v) l (zeros (length d)) Short (short h (omega arith)) (sym (range_past P C pos some i mem (settle P C v) l (settle_fits P C v l lent) o (length d) (omega (arith, settle_size P C v))))
+    whole : (n : ℕ) (full : Bool) → n ≡ min (v.size - o) (length d) → full ≡ eqb (length d - n) 0 → reading v.size o (length d) ≡ Ok full
+    whole n full g t = split (eqb (length d - n) 0)
+        (λ y. let f : full ≡ true = t ∙ y in
+        let z : length d - n ≡ 0 = eqb-true (length d - n) 0 y in
+        rw f (split (eqb (length d) 0)
+        (λ u. rw u)
+        (λ u. let h : o + length d ≤ v.size = omega (arith, g, z, eqb-false (length d) 0 u) in rw (u, le-leb (o + length d) v.size h))))
+        (λ y. let f : full ≡ false = t ∙ y in
+        let z : 0 < length d - n = omega (arith, eqb-false (length d - n) 0 y) in
+        rw f (short (omega (arith, z)) (omega (arith, g, z))))
 
-    pub at_whole : o + length d ≤ v.size → (x v2 : Overlay) (l2 : Buffers) (bs : List ℕ) → x ≡ settle P C v → seen v2 l2 bs Full ≡ range_read P C i mem x l o (length d) → seen v2 l2 bs Full ≡ read_at P C i mem v l o d
-    at_whole h x v2 l2 bs s e = answer v2 l2 bs Full (rw (le-leb (o + length d) v.size h, or-true)) (e ∙ ap (λ (y : Overlay). range_read P C i mem y l o (length d)) s)
+    pub at_past : 0 < length d → v.size ≤ o → seen (settle P C v) l (zeros (length d)) (Ok false) ≡ read_at P C i mem v l o d
+    at_past h k = answer (settle P C v) l (zeros (length d)) (Ok false) (short h (omega arith)) (sym (range_past P C pos some i mem (settle P C v) l (settle_fits P C v l lent) o (length d) (omega (arith, settle_size P C v))))
+
+    pub at_whole : o + length d ≤ v.size → (x v2 : Overlay) (l2 : Buffers) (bs : List ℕ) → x ≡ settle P C v → seen v2 l2 bs (Ok true) ≡ range_read P C i mem x l o (length d) → seen v2 l2 bs (Ok true) ≡ read_at P C i mem v l o d
+    at_whole h x v2 l2 bs s e = answer v2 l2 bs (Ok true) (rw (le-leb (o + length d) v.size h, or-true)) (e ∙ ap (λ (y : Overlay). range_read P C i mem y l o (length d)) s)
 
     -- past the size, zeros
-    pub at_cut : o ≤ v.size → v.size < o + length d → (x v2 : Overlay) (l2 : Buffers) (bs : List ℕ) (n : ℕ) → x ≡ settle P C v → n ≡ v.size - o → seen v2 l2 bs Full ≡ range_read P C i mem x l o n
-        → seen v2 l2 (bs ++ zeros (length d - (v.size - o))) Short ≡ read_at P C i mem v l o d
+    pub at_cut : o ≤ v.size → v.size < o + length d → (x v2 : Overlay) (l2 : Buffers) (bs : List ℕ) (n : ℕ) → x ≡ settle P C v → n ≡ v.size - o → seen v2 l2 bs (Ok true) ≡ range_read P C i mem x l o n
+        → seen v2 l2 (bs ++ zeros (length d - (v.size - o))) (Ok false) ≡ read_at P C i mem v l o d
     at_cut h k x v2 l2 bs n q g x-is =
-        let e : seen v2 l2 bs Full ≡ range_read P C i mem (settle P C v) l o (v.size - o) = x-is ∙ (λ j. range_read P C i mem (q j) l o (g j)) in
+        let e : seen v2 l2 bs (Ok true) ≡ range_read P C i mem (settle P C v) l o (v.size - o) = x-is ∙ (λ j. range_read P C i mem (q j) l o (g j)) in
         let s : Fits P C (settle P C v) l = settle_fits P C v l lent in
         let m : ℕ = length d - (v.size - o) in
         let f : Fits P C v2 l2 = range_fits P C pos some i mem (settle P C v) l s o (v.size - o) v2 l2 bs e in
         let z : v2.size ≤ o + (v.size - o) = omega (arith, settle_size P C v, range_size P C pos some i mem (settle P C v) l s o (v.size - o) v2 l2 bs e) in
         let w : v.size - o + m ≡ length d = omega arith in
-        answer v2 l2 (bs ++ zeros m) Short (short (omega arith) k)
+        answer v2 l2 (bs ++ zeros m) (Ok false) (short (omega arith) k)
         (range_join P C pos some i mem (settle P C v) l s o (v.size - o) m v2 l2 bs e v2 l2 (zeros m) (sym (range_past P C pos some i mem v2 l2 f (o + (v.size - o)) m z))
         ∙ ap (range_read P C i mem (settle P C v) l o) w)
+
+    -- the bytes below the size, then zeros; full if no byte is past it
+    pub at_split : (x v2 : Overlay) (l2 : Buffers) (bs : List ℕ) (n : ℕ) (full : Bool) → x ≡ settle P C v → n ≡ min (v.size - o) (length d) → full ≡ eqb (length d - n) 0
+        → seen v2 l2 bs (Ok true) ≡ range_read P C i mem x l o n → seen v2 l2 (bs ++ zeros (length d - n)) (Ok full) ≡ read_at P C i mem v l o d
+    unfolding filled
+    at_split x v2 l2 bs n full q g t x-is =
+        let e : seen v2 l2 bs (Ok true) ≡ range_read P C i mem (settle P C v) l o n = x-is ∙ (λ j. range_read P C i mem (q j) l o n) in
+        let s : Fits P C (settle P C v) l = settle_fits P C v l lent in
+        let m : ℕ = length d - n in
+        let w : n + m ≡ length d = omega (arith, g) in
+        let f : Fits P C v2 l2 = range_fits P C pos some i mem (settle P C v) l s o n v2 l2 bs e in
+        let same : v2.size ≡ v.size = range_size P C pos some i mem (settle P C v) l s o n v2 l2 bs e ∙ settle_size P C v in
+        let zs : seen v2 l2 (zeros m) (Ok true) ≡ range_read P C i mem v2 l2 (o + n) m = split (eqb m 0)
+        (λ y. let z : m ≡ 0 = eqb-true m 0 y in rw z (sym (range_none P C pos some i mem v2 l2 f (o + n))))
+        (λ y. sym (range_past P C pos some i mem v2 l2 f (o + n) m (omega (arith, same, g, eqb-false m 0 y)))) in
+        answer v2 l2 (bs ++ zeros m) (Ok full) (whole n full g t)
+        (range_join P C pos some i mem (settle P C v) l s o n m v2 l2 bs e v2 l2 (zeros m) zs ∙ ap (range_read P C i mem (settle P C v) l o) w)

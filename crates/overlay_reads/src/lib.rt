@@ -1,118 +1,90 @@
 // Reads of the file of an update.
+// The lent slices are parameters of their own, as `update::Stored` says.
 #![tactic(auto)]
 
-ghost use Rattle.std.specs.Prelude.{◌≡◌, ◌+◌, ◌-◌, ◌*◌, ◌%◌, ◌≤◌, ◌<◌, length};
+ghost use Rattle.std.specs.Prelude.{◌≡◌, true, ◌+◌, ◌-◌, ◌*◌, ◌%◌, ◌≤◌, length, Ok};
 ghost use Rattle.update.specs.Image.{image_in};
 ghost use Rattle.update.specs.Buffers.{settled};
 ghost use Rattle.update.specs.Laid.{bufs, clean_seen, clean_read, Fits};
 ghost use Rattle.overlay_reads.specs.Reads.{seen, page_read, range_read, read_at};
 
 use config::{PAGE_LEN, Refusal};
-use update::{CleanCache, Image, Overlay};
-
-// "A read is full exactly when it is empty or ends at or before the size, else short"; only 35 can refuse it.
-#[derive(Clone, Copy)]
-pub enum Reading {
-    Full,
-    Short,
-    Refused(Refusal),
-}
-
-// The overlay after a read, and the answer.
-#[derive(Clone, Copy)]
-pub struct ReadBack {
-    pub overlay: Overlay,
-    pub reading: Reading,
-}
+use update::{CleanCache, Overlay, Stored};
 
 // A page that the overlay has not: from its clean frame, or else from the image, whose page the cache takes up.
 fn read_clean(
-    c: CleanCache,
-    image: Image,
-    mem: &[u8],
+    c: &mut CleanCache,
     clean: &mut [u8],
+    stored: Stored<'_>,
     dst: &mut [u8],
     page: u64,
     within: usize,
-) -> CleanCache
-    requires { (c ≡ settled 16384 8 c) × ((131072 ≤ length clean.old) × ((within + length dst.old ≤ 16384) × (page * 16384 ≤ 18446744073709551615))) }
-    ensures { clean_seen result clean.new dst.new ≡ clean_read 16384 8 c clean.old (image_in 16384 image mem.now) page within (length dst.old) }
+)
+    requires { (c.old ≡ settled 16384 8 c.old) × (131072 ≤ length clean.old) × (within + length dst.old ≤ 16384) × (page * 16384 ≤ 18446744073709551615) }
+    ensures { clean_seen c.new clean.new dst.new ≡ clean_read 16384 8 c.old clean.old (image_in 16384 stored.entry.image stored.entry.mem.now) page within (length dst.old) }
 {
-    let numbers = c.pages;
-    let count = c.count;
-    let at = pool::find(&numbers, count, page);
-    if at < count {
-        let from = at * PAGE_LEN + within;
-        memory::copy(dst, &clean[from..]);
-        return c;
-    }
-    let cache = pool::insert(c, clean, mem, image, page);
-    let from = (cache.count - 1) * PAGE_LEN + within;
+    let at = match pool::find(&c.pages[..c.count], page) {
+        Some(at) => at,
+        None => {
+            pool::insert(c, clean, stored, page);
+            c.count - 1
+        }
+    };
+    let from = at * PAGE_LEN + within;
     memory::copy(dst, &clean[from..]);
-    cache
 }
 
 // "A read takes a page from dirty, else zero if the record covers it, else the cache, else the image."
 fn read_page(
-    o: Overlay,
-    image: Image,
-    mem: &[u8],
+    o: &mut Overlay,
+    stored: Stored<'_>,
     frames: &[u8],
     numbers: &[u64],
     clean: &mut [u8],
     record: &[u64],
     offset: u64,
     dst: &mut [u8],
-) -> Overlay
-    requires { Fits 16384 8 o (bufs frames.now numbers.now clean.old «record».now) × (offset % 16384 + length dst.old ≤ 16384) }
-    ensures { seen result (bufs frames.now numbers.now clean.new «record».now) dst.new Reading.Full
-        ≡ page_read 16384 8 image mem.now o (bufs frames.now numbers.now clean.old «record».now) offset (length dst.old) }
+)
+    requires { Fits 16384 8 o.old (bufs frames.now numbers.now clean.old «record».now) × (offset % 16384 + length dst.old ≤ 16384) }
+    ensures { seen o.new (bufs frames.now numbers.now clean.new «record».now) dst.new (Ok true)
+        ≡ page_read 16384 8 stored.entry.image stored.entry.mem.now o.old (bufs frames.now numbers.now clean.old «record».now) offset (length dst.old) }
 {
     let page = config::page_no(offset);
     let within = config::page_offset(offset);
-    let dirty = o.dirty;
-    let at = pool::find(numbers, dirty, page.0);
-    if at < dirty {
+    if let Some(at) = pool::find(&numbers[..o.dirty], page.0) {
         let from = at * PAGE_LEN + within;
         memory::copy(dst, &frames[from..]);
-        return o;
+    } else if runs::covered(record, o.recorded, page.0) {
+        memory::fill(dst, 0);
+    } else {
+        read_clean(&mut o.cache, clean, stored, dst, page.0, within);
     }
-    if runs::covered(record, o.recorded, page.0) {
-        memory::fill(dst);
-        return o;
-    }
-    let c = o.cache;
-    let cache = read_clean(c, image, mem, clean, dst, page.0, within);
-    let mut next = o;
-    next.cache = cache;
-    next
 }
 
+// The bytes from `offset` on, page by page; all of them below the size.
 fn read_range(
-    o: Overlay,
-    image: Image,
-    mem: &[u8],
+    o: &mut Overlay,
+    stored: Stored<'_>,
     frames: &[u8],
     numbers: &[u64],
     clean: &mut [u8],
     record: &[u64],
     offset: u64,
     dst: &mut [u8],
-) -> Overlay
-    requires { Fits 16384 8 o (bufs frames.now numbers.now clean.old «record».now) × (offset + length dst.old ≤ o.size) }
-    ensures { seen result (bufs frames.now numbers.now clean.new «record».now) dst.new Reading.Full
-        ≡ range_read 16384 8 image mem.now o (bufs frames.now numbers.now clean.old «record».now) offset (length dst.old) }
+)
+    requires { Fits 16384 8 o.old (bufs frames.now numbers.now clean.old «record».now) × (length dst.old ≤ o.old.size - offset) × (offset + length dst.old ≤ 18446744073709551615) }
+    ensures { seen o.new (bufs frames.now numbers.now clean.new «record».now) dst.new (Ok true)
+        ≡ range_read 16384 8 stored.entry.image stored.entry.mem.now o.old (bufs frames.now numbers.now clean.old «record».now) offset (length dst.old) }
 {
-    let mut overlay = o;
+    // By an index: the first part is shorter than a page, so no `chunks_mut`; of a `&mut` slice that shrinks, tried, the invariant could not say what was read.
     let mut done = 0;
     while done < dst.len() {
         let absolute = offset + (done as u64);
         let within = config::page_offset(absolute);
-        let end = done + memory::least(PAGE_LEN - within, dst.len() - done);
-        overlay = read_page(
-            overlay,
-            image,
-            mem,
+        let end = done + (dst.len() - done).min(PAGE_LEN - within);
+        read_page(
+            o,
+            stored,
             frames,
             numbers,
             clean,
@@ -122,67 +94,30 @@ fn read_range(
         );
         done = end;
     }
-    overlay
 }
 
-// A read of all of `dst` from `offset` on.
+// A read of all of `dst` from `offset` on. "A read is full exactly when it is empty or ends at or before the size, else short": whether it is full. Only 35 can refuse it.
 pub fn read_at(
-    o: Overlay,
-    image: Image,
-    mem: &[u8],
+    o: &mut Overlay,
+    stored: Stored<'_>,
     frames: &[u8],
     numbers: &[u64],
     clean: &mut [u8],
     record: &[u64],
     offset: u64,
     dst: &mut [u8],
-) -> ReadBack
-    ensures { seen result.overlay (bufs frames.now numbers.now clean.new «record».now) dst.new result.reading
-        ≡ read_at 16384 8 image mem.now o (bufs frames.now numbers.now clean.old «record».now) offset dst.old }
+) -> Result<bool, Refusal>
+    ensures { seen o.new (bufs frames.now numbers.now clean.new «record».now) dst.new result
+        ≡ read_at 16384 8 stored.entry.image stored.entry.mem.now o.old (bufs frames.now numbers.now clean.old «record».now) offset dst.old }
 {
-    if buffers::are_short(o, frames, numbers, clean, record) {
-        return ReadBack {
-            overlay: o,
-            reading: Reading::Refused(Refusal::BufferTooShort),
-        };
+    if buffers::are_short(*o, frames, numbers, clean, record) {
+        return Err(Refusal::BufferTooShort);
     }
-    let settled = buffers::settle(o);
-    if dst.len() == 0 {
-        return ReadBack {
-            overlay: settled,
-            reading: Reading::Full,
-        };
-    }
-    if o.size <= offset {
-        memory::fill(dst);
-        return ReadBack {
-            overlay: settled,
-            reading: Reading::Short,
-        };
-    }
-    if (dst.len() as u64) <= o.size - offset {
-        return ReadBack {
-            overlay: read_range(
-                settled, image, mem, frames, numbers, clean, record, offset, dst,
-            ),
-            reading: Reading::Full,
-        };
-    }
-    let n = (o.size - offset) as usize;
-    let overlay = read_range(
-        settled,
-        image,
-        mem,
-        frames,
-        numbers,
-        clean,
-        record,
-        offset,
-        &mut dst[..n],
-    );
-    memory::fill(&mut dst[n..]);
-    ReadBack {
-        overlay,
-        reading: Reading::Short,
-    }
+    buffers::settle(o);
+    let left = o.size.saturating_sub(offset);
+    let n = left.min(dst.len() as u64) as usize;
+    let (below, past) = dst.split_at_mut(n);
+    read_range(o, stored, frames, numbers, clean, record, offset, below);
+    memory::fill(past, 0);
+    Ok(past.is_empty())
 }

@@ -1,4 +1,5 @@
 // Sets of zero pages, each kept in place as its maximal runs in a list of numbers that the caller lends.
+// How many runs it holds stands beside the list: nothing is taken from the heap, and the list has room for more of them.
 #![tactic(auto)]
 
 ghost use Rattle.std.specs.Prelude.{◌≡◌, true, ◌+◌, ◌*◌, ◌≤◌, ◌<◌, min, max, ◌∷◌, length, take};
@@ -7,6 +8,7 @@ ghost use Rattle.runs.specs.Sets.{merge, maximal, without, piece};
 ghost use Rattle.runs.specs.Flat.{runs_in, out, held, padded, laid, at, put, upto, write, place};
 
 use meta::ZeroExtent;
+use runs::RunList;
 
 fn store(work: &mut [u64], i: usize, x: ZeroExtent)
     requires { i * 2 + 1 < length work.old }
@@ -21,15 +23,8 @@ fn open(work: &mut [u64], count: usize, i: usize, x: ZeroExtent) -> usize
     requires { (i ≤ count) × (count * 2 + 1 < length work.old) }
     ensures { out work.new result ≡ write work.old i (x ∷ upto work.old i count) }
 {
-    let mut k = i;
-    let mut carry = x;
-    while k < count {
-        let next = runs::read(work, k);
-        store(work, k, carry);
-        carry = next;
-        k += 1;
-    }
-    store(work, count, carry);
+    work.copy_within(i * 2..count * 2, i * 2 + 2);
+    store(work, i, x);
     count + 1
 }
 
@@ -38,15 +33,8 @@ fn close(work: &mut [u64], count: usize, o: usize, j: usize) -> usize
     requires { (o ≤ j) × (j ≤ count) × (count * 2 ≤ length work.old) }
     ensures { out work.new result ≡ write work.old o (upto work.old j count) }
 {
-    let mut to = o;
-    let mut k = j;
-    while k < count {
-        let x = runs::read(work, k);
-        store(work, to, x);
-        to += 1;
-        k += 1;
-    }
-    to
+    work.copy_within(j * 2..count * 2, o * 2);
+    o + (count - j)
 }
 
 // How many runs end before `page`. The last run is asked first: what lies behind it is placed at once. Then by halving.
@@ -54,25 +42,11 @@ fn find(work: &[u64], count: usize, page: u64) -> usize
     requires { (count * 2 ≤ length work.now) × (normalized (upto work.now 0 count) ≡ true) }
     ensures { result ≡ place page (upto work.now 0 count) }
 {
-    if count == 0 {
-        return 0;
-    }
-    let last = runs::read(work, count - 1);
-    if last.end < page {
+    if 0 < count && runs::read(work, count - 1).end < page {
         return count;
     }
-    let mut lo = 0;
-    let mut hi = count - 1;
-    while lo < hi {
-        let mid = lo + (hi - lo) / 2;
-        let x = runs::read(work, mid);
-        if x.end < page {
-            lo = mid + 1;
-        } else {
-            hi = mid;
-        }
-    }
-    lo
+    let (pairs, _) = work[..count * 2].as_chunks::<2>();
+    pairs.partition_point(|pair| pair[1] < page)
 }
 
 // A run, and the first run that it does not take up.
@@ -82,42 +56,23 @@ struct Met {
     next: usize,
 }
 
-fn least(a: u64, b: u64) -> u64
-    ensures { result ≡ min a b }
-{
-    if b < a { b } else { a }
-}
-
-fn most(a: u64, b: u64) -> u64
-    ensures { result ≡ max a b }
-{
-    if a < b { b } else { a }
-}
-
 // The run `start .. end` with the runs from `i` on that it meets.
 fn meet(work: &[u64], count: usize, i: usize, start: u64, end: u64) -> Met
     requires { (i ≤ count) × (count * 2 ≤ length work.now) }
     ensures { (i ≤ result.next) × (result.next ≤ count) × (merge (run start end) (upto work.now i count) ≡ result.run ∷ upto work.now result.next count) }
 {
-    let mut j = i;
-    let mut lo = start;
-    let mut hi = end;
-    while j < count {
-        let x = runs::read(work, j);
-        if hi < x.start {
-            return Met {
-                run: ZeroExtent { start: lo, end: hi },
-                next: j,
-            };
+    let mut run = ZeroExtent { start, end };
+    for next in i..count {
+        let x = runs::read(work, next);
+        if run.end < x.start {
+            return Met { run, next };
         }
-        lo = least(lo, x.start);
-        hi = most(hi, x.end);
-        j += 1;
+        run = ZeroExtent {
+            start: run.start.min(x.start),
+            end: run.end.max(x.end),
+        };
     }
-    Met {
-        run: ZeroExtent { start: lo, end: hi },
-        next: j,
-    }
+    Met { run, next: count }
 }
 
 // Adds the pages `start .. end` to the set whose normalized runs are the first `count` of the list: how many runs there are then.
@@ -129,14 +84,12 @@ pub fn add(work: &mut [u64], count: usize, start: u64, end: u64) -> usize
         return count;
     }
     let i = find(work, count, start);
-    let m = meet(work, count, i, start, end);
-    let j = m.next;
-    let x = m.run;
-    if i < j {
-        store(work, i, x);
-        close(work, count, i + 1, j)
+    let Met { run, next } = meet(work, count, i, start, end);
+    if i < next {
+        store(work, i, run);
+        close(work, count, i + 1, next)
     } else {
-        open(work, count, i, x)
+        open(work, count, i, run)
     }
 }
 
@@ -177,37 +130,39 @@ pub fn remove(work: &mut [u64], count: usize, page: u64) -> usize
         return count;
     }
     let x = runs::read(work, i);
-    if x.end <= page {
-        return count;
-    }
-    if page < x.start {
+    if x.end <= page || page < x.start {
         return count;
     }
     cut(work, count, i, x, page)
 }
 
-// The maximal runs of the set that the first `count` runs denote, any runs, in front of the list: how many they are.
-fn gather(work: &mut [u64], runs: &[u64], count: usize) -> usize
-    requires { count * 2 ≤ length work.old }
-    ensures { (runs_in result work.new ≡ maximal (runs_in count runs.now)) × (result ≤ count) }
+// The maximal runs of the set that any runs denote, in front of the list: how many they are.
+fn gather<L: RunList>(work: &mut [u64], list: L) -> usize
+    requires { length (L.runs list) * 2 ≤ length work.old }
+    ensures { (runs_in result work.new ≡ maximal (L.runs list)) × (result ≤ length (L.runs list)) }
 {
-    let n = runs::at_most(count, runs.len() / 2);
-    let mut i = 0;
     let mut have = 0;
-    while i < n {
-        let x = runs::read(runs, i);
+    for i in 0..list.count() {
+        let x = list.get(i);
         have = add(work, have, x.start, x.end);
-        i += 1;
     }
     have
 }
 
 // As `gather`, and the rest of the list becomes zeros.
+pub fn copy<L: RunList>(work: &mut [u64], list: L) -> usize
+    requires { length (L.runs list) * 2 ≤ length work.old }
+    ensures { out work.new result ≡ laid (length work.old) (maximal (L.runs list)) }
+{
+    let have = gather(work, list);
+    runs::clear(work, have * 2);
+    have
+}
+
+// The maximal runs of the first `count` runs of the numbers, and zeros behind them.
 pub fn copy_runs(work: &mut [u64], runs: &[u64], count: usize) -> usize
     requires { count * 2 ≤ length work.old }
     ensures { out work.new result ≡ laid (length work.old) (maximal (runs_in count runs.now)) }
 {
-    let have = gather(work, runs, count);
-    runs::clear(work, have * 2);
-    have
+    copy(work, runs::first(runs, count))
 }

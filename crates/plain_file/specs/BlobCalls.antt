@@ -9,7 +9,7 @@ use denote.Triple.Clauses.{AtExit}
 use Rattle.update.specs.Laid.{bufs}
 use Rattle.update.specs.Buffers.{Buffers}
 use Rattle.store.specs.declared.State.{State}
-use Rattle.store.specs.declared.Answer.TheVariants.{Size}
+use Rattle.store.specs.Answers.{Answer, Size, Read, Exported, Checksum, Refreshed, answered, done}
 use Rattle.store.specs.Codec.{real_codec}
 use Rattle.store.specs.Opening.{open'}
 use Rattle.store.specs.Calls.{Call, begin, read, write, truncate, commit, rollback, file_size, import_begin, import_chunk, import_finish, import_cancel, export, checksum, refresh, refresh_step, Lent, Out, out}
@@ -61,21 +61,21 @@ pub record CallOf (n : ℕ) (ps : List (ParamKind n)) (r : ResultKind n) (promis
 
 -- any call, each with the slices that the caller has and the function is not lent
 pub data BlobCall : Type 0 where
-  blob_begin_update : CallOf 0 ps-begin-update r-begin-update begin-update-promises → Lent → BlobCall
-  blob_read_at : CallOf 6 ps-read-at r-read-at read-at-promises → List ℕ → BlobCall
-  blob_write_at : CallOf 7 ps-write-at r-write-at write-at-promises → BlobCall
-  blob_truncate : CallOf 6 ps-truncate r-truncate truncate-promises → BlobCall
-  blob_commit_update : CallOf 6 ps-commit-update r-commit-update commit-update-promises → BlobCall
-  blob_rollback_update : CallOf 4 ps-rollback-update r-rollback-update rollback-update-promises → List ℕ → List ℕ → BlobCall
-  blob_file_size : CallOf 0 ps-file-size r-file-size file-size-promises → Lent → BlobCall
-  blob_begin_import : CallOf 1 ps-begin-import r-begin-import begin-import-promises → Buffers → List ℕ → BlobCall
-  blob_import_chunk : CallOf 2 ps-import-chunk r-import-chunk import-chunk-promises → Buffers → List ℕ → BlobCall
-  blob_finish_import : CallOf 1 ps-finish-import r-finish-import finish-import-promises → Buffers → List ℕ → BlobCall
-  blob_cancel_import : CallOf 1 ps-cancel-import r-cancel-import cancel-import-promises → Buffers → List ℕ → BlobCall
-  blob_export_chunk : CallOf 2 ps-export-chunk r-export-chunk export-chunk-promises → Buffers → List ℕ → BlobCall
-  blob_checksum : CallOf 1 ps-checksum r-checksum checksum-promises → Buffers → List ℕ → BlobCall
-  blob_refresh_checksum : CallOf 1 ps-refresh-checksum r-refresh-checksum refresh-checksum-promises → Buffers → List ℕ → BlobCall
-  blob_refresh_checksum_chunk : CallOf 1 ps-refresh-checksum-chunk r-refresh-checksum-chunk refresh-checksum-chunk-promises → Buffers → List ℕ → BlobCall
+  blob_begin_update : CallOf 1 ps-begin-update r-begin-update begin-update-promises → Lent → BlobCall
+  blob_read_at : CallOf 7 ps-read-at r-read-at read-at-promises → List ℕ → BlobCall
+  blob_write_at : CallOf 8 ps-write-at r-write-at write-at-promises → BlobCall
+  blob_truncate : CallOf 7 ps-truncate r-truncate truncate-promises → BlobCall
+  blob_commit_update : CallOf 7 ps-commit-update r-commit-update commit-update-promises → BlobCall
+  blob_rollback_update : CallOf 5 ps-rollback-update r-rollback-update rollback-update-promises → List ℕ → List ℕ → BlobCall
+  blob_file_size : CallOf 1 ps-file-size r-file-size file-size-promises → Lent → BlobCall
+  blob_begin_import : CallOf 2 ps-begin-import r-begin-import begin-import-promises → Buffers → List ℕ → BlobCall
+  blob_import_chunk : CallOf 3 ps-import-chunk r-import-chunk import-chunk-promises → Buffers → List ℕ → BlobCall
+  blob_finish_import : CallOf 2 ps-finish-import r-finish-import finish-import-promises → Buffers → List ℕ → BlobCall
+  blob_cancel_import : CallOf 2 ps-cancel-import r-cancel-import cancel-import-promises → Buffers → List ℕ → BlobCall
+  blob_export_chunk : CallOf 3 ps-export-chunk r-export-chunk export-chunk-promises → Buffers → List ℕ → BlobCall
+  blob_checksum : CallOf 2 ps-checksum r-checksum checksum-promises → Buffers → List ℕ → BlobCall
+  blob_refresh_checksum : CallOf 2 ps-refresh-checksum r-refresh-checksum refresh-checksum-promises → Buffers → List ℕ → BlobCall
+  blob_refresh_checksum_chunk : CallOf 2 ps-refresh-checksum-chunk r-refresh-checksum-chunk refresh-checksum-chunk-promises → Buffers → List ℕ → BlobCall
 
 -- a call in the store's words: what it was given, and what came out
 pub record Made : Type 0 where
@@ -91,76 +91,77 @@ made s l c x = record { state = s; lent = l; call = c; gave = x }
 abbrev pub made_of : BlobCall → Made
 made_of (blob_begin_update x l) =
     let (state, (limited, (pages, (bytes, none)))) = x.passed in
-    made state l (begin limited pages bytes)
-    (out x.gave.state l x.gave.answer [])
+    let (state', (limited', (pages', (bytes', none)))) = x.left in
+    made state.now l (begin limited pages bytes)
+    (out state'.now l (answered Size x.gave) [])
 made_of (blob_read_at x w) =
     let (state, (mem, (frames, (numbers, (clean, (recs, (offset, (dst, none)))))))) = x.passed in
     let (state', (mem', (frames', (numbers', (clean', (recs', (offset', (dst', none)))))))) = x.left in
-    made state (lent mem.now (bufs frames.now numbers.now clean.now recs.now) w) (read offset dst.now)
-    (out x.gave.state (lent mem.now (bufs frames.now numbers.now clean'.now recs.now) w) x.gave.answer dst'.now)
+    made state.now (lent mem.now (bufs frames.now numbers.now clean.now recs.now) w) (read offset dst.now)
+    (out state'.now (lent mem.now (bufs frames.now numbers.now clean'.now recs.now) w) (answered Read x.gave) dst'.now)
 made_of (blob_write_at x) =
     let (state, (mem, (frames, (numbers, (clean, (recs, (work, (offset, (src, none))))))))) = x.passed in
     let (state', (mem', (frames', (numbers', (clean', (recs', (work', (offset', (src', none))))))))) = x.left in
-    made state (lent mem.now (bufs frames.now numbers.now clean.now recs.now) work.now) (write offset src.now)
-    (out x.gave.state (lent mem'.now (bufs frames'.now numbers'.now clean'.now recs'.now) work'.now) x.gave.answer [])
+    made state.now (lent mem.now (bufs frames.now numbers.now clean.now recs.now) work.now) (write offset src.now)
+    (out state'.now (lent mem'.now (bufs frames'.now numbers'.now clean'.now recs'.now) work'.now) (done x.gave) [])
 made_of (blob_truncate x) =
     let (state, (mem, (frames, (numbers, (clean, (recs, (work, (size, none)))))))) = x.passed in
     let (state', (mem', (frames', (numbers', (clean', (recs', (work', (size', none)))))))) = x.left in
-    made state (lent mem.now (bufs frames.now numbers.now clean.now recs.now) work.now) (truncate size)
-    (out x.gave.state (lent mem'.now (bufs frames'.now numbers'.now clean'.now recs'.now) work'.now) x.gave.answer [])
+    made state.now (lent mem.now (bufs frames.now numbers.now clean.now recs.now) work.now) (truncate size)
+    (out state'.now (lent mem'.now (bufs frames'.now numbers'.now clean'.now recs'.now) work'.now) (done x.gave) [])
 made_of (blob_commit_update x) =
     let (state, (mem, (frames, (numbers, (clean, (recs, (work, none))))))) = x.passed in
     let (state', (mem', (frames', (numbers', (clean', (recs', (work', none))))))) = x.left in
-    made state (lent mem.now (bufs frames.now numbers.now clean.now recs.now) work.now) commit
-    (out x.gave.state (lent mem'.now (bufs frames'.now numbers'.now clean'.now recs'.now) work'.now) x.gave.answer [])
+    made state.now (lent mem.now (bufs frames.now numbers.now clean.now recs.now) work.now) commit
+    (out state'.now (lent mem'.now (bufs frames'.now numbers'.now clean'.now recs'.now) work'.now) (done x.gave) [])
 made_of (blob_rollback_update x m w) =
     let (state, (frames, (numbers, (clean, (recs, none))))) = x.passed in
     let (state', (frames', (numbers', (clean', (recs', none))))) = x.left in
-    made state (lent m (bufs frames.now numbers.now clean.now recs.now) w) rollback
-    (out x.gave.state (lent m (bufs frames'.now numbers'.now clean'.now recs'.now) w) x.gave.answer [])
+    made state.now (lent m (bufs frames.now numbers.now clean.now recs.now) w) rollback
+    (out state'.now (lent m (bufs frames'.now numbers'.now clean'.now recs'.now) w) (done x.gave) [])
 made_of (blob_file_size x l) =
     let (state, none) = x.passed in
-    made state l file_size
-    (out state l (Size x.gave) [])
+    made state.now l file_size
+    (out state.now l (Size x.gave) [])
 made_of (blob_begin_import x b w) =
     let (state, (mem, (total, (expected, none)))) = x.passed in
     let (state', (mem', (total', (expected', none)))) = x.left in
-    made state (lent mem.now b w) (import_begin total expected)
-    (out x.gave.state (lent mem'.now b w) x.gave.answer [])
+    made state.now (lent mem.now b w) (import_begin total expected)
+    (out state'.now (lent mem'.now b w) (done x.gave) [])
 made_of (blob_import_chunk x b w) =
     let (state, (mem, (offset, (src, none)))) = x.passed in
     let (state', (mem', (offset', (src', none)))) = x.left in
-    made state (lent mem.now b w) (import_chunk offset src.now)
-    (out x.gave.state (lent mem'.now b w) x.gave.answer [])
+    made state.now (lent mem.now b w) (import_chunk offset src.now)
+    (out state'.now (lent mem'.now b w) (done x.gave) [])
 made_of (blob_finish_import x b w) =
     let (state, (mem, none)) = x.passed in
     let (state', (mem', none)) = x.left in
-    made state (lent mem.now b w) import_finish
-    (out x.gave.state (lent mem'.now b w) x.gave.answer [])
+    made state.now (lent mem.now b w) import_finish
+    (out state'.now (lent mem'.now b w) (done x.gave) [])
 made_of (blob_cancel_import x b w) =
     let (state, (mem, none)) = x.passed in
     let (state', (mem', none)) = x.left in
-    made state (lent mem.now b w) import_cancel
-    (out x.gave.state (lent mem'.now b w) x.gave.answer [])
+    made state.now (lent mem.now b w) import_cancel
+    (out state'.now (lent mem'.now b w) (done x.gave) [])
 made_of (blob_export_chunk x b w) =
     let (state, (mem, (offset, (dst, none)))) = x.passed in
     let (state', (mem', (offset', (dst', none)))) = x.left in
-    made state (lent mem.now b w) (export offset dst.now)
-    (out x.gave.state (lent mem.now b w) x.gave.answer dst'.now)
+    made state.now (lent mem.now b w) (export offset dst.now)
+    (out state.now (lent mem.now b w) (answered Exported x.gave) dst'.now)
 made_of (blob_checksum x b w) =
     let (state, (mem, none)) = x.passed in
-    made state (lent mem.now b w) checksum
-    (out x.gave.state (lent mem.now b w) x.gave.answer [])
+    made state.now (lent mem.now b w) checksum
+    (out state.now (lent mem.now b w) (answered Checksum x.gave) [])
 made_of (blob_refresh_checksum x b w) =
     let (state, (mem, none)) = x.passed in
     let (state', (mem', none)) = x.left in
-    made state (lent mem.now b w) refresh
-    (out x.gave.state (lent mem'.now b w) x.gave.answer [])
+    made state.now (lent mem.now b w) refresh
+    (out state'.now (lent mem'.now b w) (answered Checksum x.gave) [])
 made_of (blob_refresh_checksum_chunk x b w) =
     let (state, (mem, (most, none))) = x.passed in
     let (state', (mem', (most', none))) = x.left in
-    made state (lent mem.now b w) (refresh_step most)
-    (out x.gave.state (lent mem'.now b w) x.gave.answer [])
+    made state.now (lent mem.now b w) (refresh_step most)
+    (out state'.now (lent mem'.now b w) (answered Refreshed x.gave) [])
 
 -- THE TIE: the contract of each of the fifteen functions says that what came out is the store's
 pub by_blob : (c : BlobCall) → (made_of c).gave ≡ calls (made_of c).state (made_of c).lent (made_of c).call
@@ -202,22 +203,28 @@ typed (blob_refresh_checksum_chunk x b w) = tt
 -- ## Opening
 
 abbrev pub BlobOpened : Type 0
-BlobOpened = CallOf 1 ps-open r-open open-promises
+BlobOpened = CallOf 2 ps-open r-open open-promises
 
--- the memory that was lent, the count that was given, and the memory that was left
+-- the memory that was lent, the count that was given, and what was left: the state, the answer and the memory
 abbrev pub memory_passed : BlobOpened → List ℕ
-memory_passed x = x.passed.0.now
+memory_passed x = x.passed.1.0.now
 
 abbrev pub count_passed : BlobOpened → ℕ
-count_passed x = x.passed.1.0.0
+count_passed x = x.passed.1.1.0.0
+
+abbrev pub state_left : BlobOpened → State
+state_left x = x.left.0.now
+
+abbrev pub answer_given : BlobOpened → Answer
+answer_given x = done x.gave
 
 abbrev pub memory_left : BlobOpened → List ℕ
-memory_left x = x.left.0.now
+memory_left x = x.left.1.0.now
 
 -- THE TIE of opening
-pub by_open : (x : BlobOpened) → opened x.gave (memory_left x) ≡ open' 16384 65536 8 1024 18446744073709551615 real_codec (count_passed x) (memory_passed x)
+pub by_open : (x : BlobOpened) → opened (state_left x) (answer_given x) (memory_left x) ≡ open' 16384 65536 8 1024 18446744073709551615 real_codec (count_passed x) (memory_passed x)
 by_open x = x.promised
 
 -- memory has no more bytes than numbers count, by its type
 pub open_typed : (x : BlobOpened) → length (memory_passed x) ≤ 18446744073709551615
-open_typed x = omega (arith, x.typed.0.0)
+open_typed x = omega (arith, x.typed.1.0.0)

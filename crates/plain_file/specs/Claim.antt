@@ -1,13 +1,11 @@
 -- Demand 3, as a claim about any store: a step from a state, what is lent and a call to what comes out. It is one claim about a whole list of calls.
-use Rattle.std.specs.Prelude.{◌≡◌, ℕ, zero, suc, ◌+◌, ◌*◌, ◌≤◌, ◌<◌, Bool, true, false, ◌||◌, List, [], ◌∷◌, ◌++◌, leb, eqb, length, take, drop, get_or}
+use Rattle.std.specs.Prelude.{◌≡◌, ℕ, ◌+◌, ◌*◌, ◌≤◌, ◌<◌, Bool, true, false, ◌||◌, List, [], ◌∷◌, ◌++◌, leb, eqb, length, take, drop, get_or}
 use Rattle.config.specs.declared.refusal.Refusal.TheVariants.{BufferTooShort}
 use Rattle.memory.specs.Bytes.{resize}
 use Rattle.words.specs.Words.{Bytes}
-use Rattle.update.specs.declared.Overlay.{Overlay}
-use Rattle.update.specs.Buffers.{Buffers, cached}
+use Rattle.update.specs.Buffers.{cached}
 use Rattle.store.specs.declared.State.{State}
-use Rattle.store.specs.declared.Answer.{Answer}
-use Rattle.store.specs.declared.Answer.TheVariants.{Size, Read, Refused}
+use Rattle.store.specs.Answers.{Size, Read, Refused}
 use Rattle.store.specs.Codec.{Codec}
 use Rattle.store.specs.Calls.{Call, begin, read, write, truncate, commit, rollback, file_size, import_begin, import_chunk, import_finish, import_cancel, export, checksum, refresh, refresh_step, Lent, Out, number, lent_bytes, Mode, idle, update, mode_of, buffers_short, short, with_mem}
 use Rattle.store.specs.Opening.{open'}

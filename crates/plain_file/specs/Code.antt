@@ -20,7 +20,7 @@ use Rattle.plain_file.specs.Claim.{Claim}
 use Rattle.plain_file.specs.Sizes.{short', plain_of, plain_step', told', Word', Lends', leaves', at_begin', Owed', Nothing', Enough', choose', Turn', Promise'}
 use Rattle.plain_file.specs.Restored.{opened_file_given}
 use Rattle.plain_file.specs.Demand3.{demand3}
-use Rattle.plain_file.specs.BlobCalls.{Made, BlobCall, made_of, by_blob, typed, BlobOpened, memory_passed, count_passed, memory_left, by_open, open_typed}
+use Rattle.plain_file.specs.BlobCalls.{Made, BlobCall, made_of, by_blob, typed, BlobOpened, memory_passed, count_passed, state_left, answer_given, memory_left, by_open, open_typed}
 
 -- the plain file after a call that gave x
 abbrev pub plain_after : Plain → Call → Lent → Out → Plain
@@ -82,35 +82,35 @@ all_gave (c ∷ cs) = ((by_blob c, typed c), all_gave cs)
 
 -- THE CODE: `open` accepted an image, in a memory that is bytes; then the fifteen functions were called, in any order, with any arguments of their types.
 -- Every call has what is owed
-pub demand3_calls : (o : BlobOpened) → number o.gave.answer ≡ 0 → Bytes (memory_passed o) → (b : Buffers) (w : List ℕ) (cs : List BlobCall)
-    → CallsPromise o.gave.state (plain_of (memory_left o)) [] (lent (memory_left o) b w) (made_all cs)
+pub demand3_calls : (o : BlobOpened) → number (answer_given o) ≡ 0 → Bytes (memory_passed o) → (b : Buffers) (w : List ℕ) (cs : List BlobCall)
+    → CallsPromise (state_left o) (plain_of (memory_left o)) [] (lent (memory_left o) b w) (made_all cs)
 unfolding Claim
 demand3_calls o ok bytes b w cs =
     let x : Opened = open' 16384 65536 8 1024 18446744073709551615 real_codec (count_passed o) (memory_passed o) in
-    let is : x ≡ opened o.gave (memory_left o) = sym (by_open o) in
+    let is : x ≡ opened (state_left o) (answer_given o) (memory_left o) = sym (by_open o) in
     let accepted : number x.answer ≡ 0 = ap (λ (z : Opened). number z.answer) is ∙ ok in
     let g : Promise' x.state (plain_of x.mem) [] (lent x.mem b w) (turns (made_all cs)) =
     demand3 (count_passed o) (lent (memory_passed o) b w) bytes (open_typed o) accepted (turns (made_all cs)) in
-    keeps o.gave.state (plain_of (memory_left o)) [] (lent (memory_left o) b w) (made_all cs) (all_gave cs)
+    keeps (state_left o) (plain_of (memory_left o)) [] (lent (memory_left o) b w) (made_all cs) (all_gave cs)
     (subst (λ (z : Opened). Promise' z.state (plain_of z.mem) [] (lent z.mem b w) (turns (made_all cs))) is g)
 
 -- ## The opening by itself (02, W-202)
 
 -- whatever `open` answered: no import is open in the state that it gave
-pub open_no_import : (o : BlobOpened) → importing o.gave.state.block ≡ false
+pub open_no_import : (o : BlobOpened) → importing (state_left o).block ≡ false
 open_no_import o =
     ap (λ (x : Opened). importing x.state.block) (by_open o)
     ∙ no_import 16384 65536 8 1024 18446744073709551615 real_codec (omega arith) (count_passed o) (memory_passed o)
 
 -- refused, it left memory as it was
-pub open_refused : (o : BlobOpened) → (number o.gave.answer ≡ 0 → ⊥) → memory_left o ≡ memory_passed o
+pub open_refused : (o : BlobOpened) → (number (answer_given o) ≡ 0 → ⊥) → memory_left o ≡ memory_passed o
 open_refused o refused =
     ap (λ (x : Opened). x.mem) (by_open o)
     ∙ refused_unchanged 16384 65536 8 1024 18446744073709551615 real_codec (omega arith) (count_passed o) (memory_passed o)
     (λ e. refused (ap (λ (x : Opened). number x.answer) (by_open o) ∙ e))
 
 -- accepted, an image that was there is the plain file that it was, also if its import was closed
-pub open_keeps : (o : BlobOpened) → number o.gave.answer ≡ 0 → Bytes (memory_passed o) → (count_passed o ≡ 0 → ⊥) → plain_of (memory_left o) ≡ plain_of (memory_passed o)
+pub open_keeps : (o : BlobOpened) → number (answer_given o) ≡ 0 → Bytes (memory_passed o) → (count_passed o ≡ 0 → ⊥) → plain_of (memory_left o) ≡ plain_of (memory_passed o)
 open_keeps o ok bytes some =
     ap (λ (x : Opened). plain_of x.mem) (by_open o)
     ∙ ap closed (opened_file_given 16384 65536 8 1024 18446744073709551615 real_codec (omega arith) (omega arith) real_lawful (count_passed o) (memory_passed o) bytes (open_typed o) some

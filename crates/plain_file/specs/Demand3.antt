@@ -1,6 +1,6 @@
 -- DEMAND 3: the store meets the claim.
-use Rattle.std.specs.Prelude.{◌≡◌, refl, ℕ, zero, suc, ◌+◌, ◌-◌, ◌*◌, ◌≤◌, ◌<◌, Bool, true, false, not, length, take}
-use Rattle.std.proofs.Common.{sym, ◌∙◌, subst, arith}
+use Rattle.std.specs.Prelude.{◌≡◌, refl, ℕ, ◌*◌, ◌≤◌, ◌<◌, Bool, true, false, take}
+use Rattle.std.proofs.Common.{sym, subst, arith}
 use Rattle.std.proofs.Math.Path.{ap}
 use Rattle.std.proofs.Math.Bool.{cond}
 use mathlib.Core.List.{List, [], ◌∷◌}
@@ -10,16 +10,16 @@ use Rattle.meta.specs.declared.superblock.Superblock.{Superblock}
 use Rattle.update.specs.declared.Overlay.{Overlay}
 use Rattle.store.specs.declared.State.{State}
 use Rattle.store.specs.Codec.{Codec, real_codec}
-use Rattle.store.specs.Calls.{Call, Lent, Out, uses, Mode, mode_if, mode_of, short, with_mem}
+use Rattle.store.specs.Calls.{Call, Lent, Out, uses, mode_if, short, with_mem}
 use Rattle.store.specs.Store.{refuse, act, swept, store}
 use Rattle.store.specs.Opening.{open'}
-use Rattle.store.specs.Lawful.{Lawful, Good}
+use Rattle.store.specs.Lawful.{Lawful}
 use Rattle.store.proofs.OpeningLaws.{Opens}
 use Rattle.store.proofs.ClosingLaws.{opens}
 use Rattle.store.proofs.BufferLengths.{count_lent, buffers_again}
 use Rattle.store.specs.RealCodec.{real_lawful}
 use Rattle.plain_file.specs.Plain.{Plain, closed, drafting, file_of, plain_step}
-use Rattle.plain_file.specs.Claim.{Owed, Nothing, Enough, Lends, leaves, Turn, told, at_begin, Word, Promise, Claim}
+use Rattle.plain_file.specs.Claim.{Lends, leaves, Turn, told, at_begin, Word, Promise, Claim}
 use Rattle.plain_file.specs.Invariant.{Inv, InvMode, inv_back}
 use Rattle.plain_file.specs.Turns.{Turned, update_turn}
 use Rattle.plain_file.specs.IdleTurns.{idle_turn}

@@ -1,28 +1,25 @@
 -- The end of an update or a direct call: what a commit answers and leaves, beside what the plain file tests and becomes.
-use Rattle.std.specs.Prelude.{◌≡◌, refl, Bool, true, false, not, ◌&&◌, ◌||◌, ltb, leb, eqb, get_or}
+use Rattle.std.specs.Prelude.{◌≡◌, refl, Bool, true, false, ◌&&◌, ltb, eqb, get_or, Ok}
 use Rattle.std.proofs.Math.Path.{sym, ap, subst}
 use Rattle.std.proofs.Common.{◌∙◌}
-use Prim.Native.Nat.{ℕ, zero, suc, ◌+◌, ◌-◌, ◌*◌, ◌/◌, ◌%◌, ◌≤◌, ◌<◌, max, min}
+use Prim.Native.Nat.{ℕ, ◌+◌, ◌*◌, ◌/◌, ◌≤◌, ◌<◌, max}
 use native.Mathlib.Omega.{arith}
 use Rattle.std.proofs.Math.Bool.{cond}
-use mathlib.Core.List.{List, [], ◌∷◌, ◌++◌}
+use mathlib.Core.List.{List, [], ◌∷◌}
 use Rattle.std.proofs.Math.ListN.{length}
 use Rattle.std.proofs.Math.Seq.{ext_get_or}
-use borrow.Author.Tests.{ltb-true, ltb-false, eqb-true, eqb-false, lt-ltb, le-ltb}
+use borrow.Author.Tests.{ltb-false, eqb-true, lt-ltb, le-ltb}
 use Rattle.config.specs.Pages.{count}
 use Rattle.config.specs.Refusals.{numbers_of}
 use Rattle.config.specs.declared.refusal.Refusal.{Refusal}
 use Rattle.config.specs.declared.refusal.Refusal.TheVariants.{ZeroExtentLimitExceeded, OffsetOverflow, GrowFailed}
-use Rattle.memory.specs.Growth.{grow_to, stable}
-use Rattle.memory.specs.declared.Growth.TheVariants.{Grown}
-use Rattle.memory.specs.Laws.{split}
+use Rattle.memory.specs.Growth.{stable}
 use Rattle.meta.specs.declared.superblock.Superblock.{Superblock}
 use Rattle.meta.specs.declared.ZeroExtent.{ZeroExtent}
 use Rattle.runs.specs.Sets.{covers}
 use Rattle.extents.specs.Plan.{Answer as Planned, too_many, kept, below, plan}
-use Rattle.update.specs.declared.Overlay.{Overlay}
 use Rattle.update.specs.Lists.{tabulate, null}
-use Rattle.update.specs.ListLaws.{clash, tests, length-tabulate, tabulate_at}
+use Rattle.update.specs.ListLaws.{clash, length-tabulate, tabulate_at}
 use Rattle.update.specs.Pages.{Page, page_numbers}
 use Rattle.update.specs.Image.{image_byte}
 use Rattle.update.specs.Update.{Over, raw}
@@ -30,10 +27,9 @@ use Rattle.update.specs.Refused.{Weak}
 use Rattle.update.specs.Reading.{raw_weak}
 use Rattle.store.specs.declared.State.{State}
 use Rattle.store.specs.Cases.{by_test}
-use Rattle.store.specs.declared.Answer.{Answer}
-use Rattle.store.specs.declared.Answer.TheVariants.{Done, Refused}
-use Rattle.store.specs.Codec.{Codec, sealed, stored}
-use Rattle.store.specs.Calls.{Lent, Out, out, number, Mode, idle, update, mode_of}
+use Rattle.store.specs.Answers.{Done, Refused}
+use Rattle.store.specs.Codec.{Codec}
+use Rattle.store.specs.Calls.{Lent, Out, number, idle, mode_of}
 use Rattle.store.specs.Plan.{required}
 use Rattle.store.proofs.PlanLaws.{store_plan_lem}
 use Rattle.store.specs.Store.{runs_of, image, over, publish, settle, unchanged, planned_runs, commit_over}
@@ -196,7 +192,7 @@ module _ (P S C L M : ℕ) (k : Codec) (pos : 0 < P) (spos : 0 < S) (laws : Lawf
       verdict = changed_ground changed ∙ ap (judge P S L M end (length m)) e
 
       published : (r : ℕ) (grown : List ℕ) → Reaches S c end m r grown → ltb M end ≡ false → count S end ≤ length m / S
-          → Committed c h m u (publish P S C L M k w s l u rs grown (Grown (stable r)))
+          → Committed c h m u (publish P S C L M k w s l u rs grown (Ok (stable r)))
       unfolding new_block flushed after
       published r grown q f reach =
           let ok : end ≤ M = ltb-false M end f in

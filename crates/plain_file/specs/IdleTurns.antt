@@ -1,23 +1,21 @@
 -- One call with no update open: what is owed is paid, and the invariant holds again.
-use Rattle.std.specs.Prelude.{◌≡◌, Bool, not, ◌&&◌, ◌||◌, ltb, take, drop}
+use Rattle.std.specs.Prelude.{◌≡◌, Bool, not, ◌&&◌, ◌||◌, ltb, take, drop, Ok}
 use Rattle.std.proofs.Math.Path.{refl, sym, ap}
-use Rattle.std.proofs.Common.{◌∙◌, subst, subst₂, add-mul, one-mul, arith}
-use Prim.Native.Nat.{ℕ, zero, suc, ◌+◌, ◌-◌, ◌*◌, ◌/◌, ◌%◌, ◌≤◌, ◌<◌, max, min}
+use Rattle.std.proofs.Common.{◌∙◌, subst, add-mul, one-mul, arith}
+use Prim.Native.Nat.{ℕ, ◌+◌, ◌-◌, ◌*◌, ◌/◌, ◌≤◌, ◌<◌, max, min}
 use Rattle.std.proofs.Math.Nat.{mul-le-mul_right}
 use Rattle.std.proofs.Math.Bool.{true, false, cond}
-use mathlib.Core.List.{List, [], ◌∷◌, ◌++◌}
+use mathlib.Core.List.{List, []}
 use Rattle.std.proofs.Math.Dec.{leb, eqb}
 use Rattle.std.proofs.Math.ListN.{length, get_or, get_or-eq_default}
 use borrow.Author.Tests.{ltb-true, ltb-false, eqb-true, eqb-false, ne_eqb}
 use Rattle.config.specs.Refusals.{numbers_of}
-use Rattle.config.specs.Pages.{count, page_lo}
+use Rattle.config.specs.Pages.{page_lo}
 use Rattle.config.specs.declared.refusal.Refusal.{Refusal}
 use Rattle.config.specs.declared.refusal.Refusal.TheVariants.{ChecksumMismatch}
 use Rattle.memory.specs.Bytes.{overwrite}
 use Rattle.memory.specs.Laws.{split, length-overwrite, overwrite_lo}
-use Rattle.memory.specs.Growth.{grow_to, stable}
-use Rattle.memory.specs.declared.Growth.{Growth}
-use Rattle.memory.specs.declared.Growth.TheVariants.{Grown}
+use Rattle.memory.specs.Growth.{stable}
 use Rattle.meta.specs.declared.superblock.Superblock.{Superblock}
 use Rattle.meta.specs.Runs.{normalized_nil}
 use Rattle.update.specs.declared.Overlay.{Overlay}
@@ -32,21 +30,21 @@ use Rattle.update.specs.Reading.{reads}
 use Rattle.store.specs.declared.State.{State}
 use Rattle.store.specs.Cases.{by_test}
 use Rattle.store.specs.Tries.{RefusedBy, write_by, truncate_by}
-use Rattle.store.specs.declared.Answer.{Answer}
-use Rattle.store.specs.declared.Answer.TheVariants.{Done, Size, Read, Checksum, Refused}
+use Rattle.store.specs.Answers.{Answer}
+use Rattle.store.specs.Answers.{Done, Size, Read, Checksum, Refused}
 use Rattle.store.specs.Codec.{Codec, sealed, stored}
 use Rattle.store.specs.Blocks.{importing, refreshing, after_import_begin, after_import_chunk, after_import_cancel, after_import_finish, after_refresh, after_refresh_step}
 use Rattle.store.proofs.BlockLaws.{after_begin, begin_keeps, after_chunk, after_finish, refresh_keeps, refresh_imports, step_keeps, step_imports, seal_importing}
 use Rattle.store.specs.Blocks.{Keeps, KeepsImport, ImportBegins, ChunkKeeps, Finishes}
-use Rattle.store.specs.Calls.{Call, begin, read, write, truncate, commit, rollback, file_size, import_begin, import_chunk, import_finish, import_cancel, export, checksum, refresh, refresh_step, Lent, Out, out, number, uses, Mode, idle, update, mode_of, short, cleared, with_mem}
-use Rattle.store.specs.Store.{resting, working, onward, budget_of, image, image_bytes, image_sum, over, commit_over, direct, do_begin, restore, do_import_begin, place_chunk, do_import_chunk, do_import_finish, do_import_cancel, do_export, do_checksum, do_refresh, progress, refresh_from, do_refresh_step, act, swept}
+use Rattle.store.specs.Calls.{Call, begin, read, write, truncate, commit, rollback, file_size, import_begin, import_chunk, import_finish, import_cancel, export, checksum, refresh, refresh_step, Lent, Out, out, number, uses, idle, short, cleared, with_mem}
+use Rattle.store.specs.Store.{resting, working, onward, budget_of, image, image_bytes, image_sum, commit_over, direct, do_begin, restore, do_import_begin, place_chunk, do_import_chunk, do_import_finish, do_import_cancel, do_export, do_checksum, do_refresh, progress, refresh_from, do_refresh_step, act, swept}
 use Rattle.store.specs.Lawful.{Fits, Lawful, Good}
 use Rattle.store.proofs.MemoryLaws.{grow_cases, stored-length}
 use Rattle.store.specs.Facts.{Reaches}
 use Rattle.store.proofs.RestoreLaws.{cancel_carries, restore_good}
 use Rattle.store.specs.Facts.{Carries}
 use Rattle.plain_file.specs.Plain.{File, Draft, Plain, closed, drafting, copied, draft_write, draft_truncate, verdict_number, file_ground, file_of, changed}
-use Rattle.plain_file.specs.Claim.{Reads, Direct, Lends, leaves, at_begin, Word}
+use Rattle.plain_file.specs.Claim.{Direct, Lends, leaves, at_begin, Word}
 use Rattle.plain_file.specs.Invariant.{Draws, Inv, good_near, file_near, inv_back}
 use Rattle.plain_file.specs.Ends.{file-length, file_byte, Committed, committed}
 use Rattle.plain_file.specs.Restored.{restore_file}
@@ -421,7 +419,7 @@ module _ (P S C L M : ℕ) (k : Codec) (pos : 0 < P) (spos : 0 < S) (wide : P �
               import_range = λ z. omega (arith, g.import_range y, n.base, n.total);
             }
 
-        chunk_placed : Turned P S C L M k (closed f) m (import_chunk o bs) l (place_chunk P S C L M k s l o bs grown (Grown (stable r))) w
+        chunk_placed : Turned P S C L M k (closed f) m (import_chunk o bs) l (place_chunk P S C L M k s l o bs grown (Ok (stable r))) w
         unfolding restore
         chunk_placed =
             let x : Out = restore P S C L M k (onward s r h) (with_mem put l) (after_import_chunk (o + length bs) h) Done in

@@ -1,10 +1,10 @@
 -- The invariant between the store and the plain file, and that it looks at the live parts of the lent slices only.
-use Rattle.std.specs.Prelude.{◌≡◌, refl, Bool, true, false, not, ◌&&◌, ◌||◌, ltb, leb, eqb, take, drop}
-use Rattle.std.proofs.Common.{sym, ◌∙◌, subst, subst₂, arith, length-drop}
+use Rattle.std.specs.Prelude.{◌≡◌, refl, false, ltb, take}
+use Rattle.std.proofs.Common.{sym, ◌∙◌, subst₂, arith, length-drop}
 use Rattle.std.proofs.Math.Path.{ap, fun_ext}
-use Prim.Native.Nat.{ℕ, zero, suc, ◌+◌, ◌-◌, ◌*◌, ◌/◌, ◌%◌, ◌≤◌, ◌<◌, max, min}
+use Prim.Native.Nat.{ℕ, ◌+◌, ◌-◌, ◌*◌, ◌/◌, ◌≤◌, ◌<◌}
 use Rattle.std.proofs.Math.Bool.{cond}
-use mathlib.Core.List.{List, [], ◌∷◌, ◌++◌}
+use mathlib.Core.List.{List}
 use Rattle.std.proofs.Math.ListN.{length, get_or, length-append, get_or-append}
 use Rattle.std.proofs.Math.Seq.{get_or-drop}
 use borrow.Author.Tests.{ltb-true, ltb-false}
@@ -14,20 +14,20 @@ use Rattle.meta.specs.declared.ZeroExtent.{ZeroExtent}
 use Rattle.runs.specs.Sets.{covers}
 use Rattle.update.specs.declared.Overlay.{Overlay}
 use Rattle.update.specs.Lists.{tabulate}
-use Rattle.update.specs.ListLaws.{tests, tabulate_alike, take-alike}
+use Rattle.update.specs.ListLaws.{tabulate_alike, take-alike}
 use Rattle.update.specs.Pages.{page_numbers}
 use Rattle.update.specs.Image.{image_byte}
 use Rattle.update.specs.Update.{Over}
-use Rattle.update.specs.Buffers.{Buffers, cached, view}
+use Rattle.update.specs.Buffers.{cached, view}
 use Rattle.update.specs.BufferLaws.{view_alike}
 use Rattle.update.specs.Changes.{Like}
 use Rattle.update.specs.Refused.{Weak}
 use Rattle.store.specs.declared.State.{State}
 use Rattle.store.specs.Codec.{Codec}
 use Rattle.store.specs.Calls.{Lent, Mode, idle, update, mode_of}
-use Rattle.store.specs.Store.{runs_of, image}
+use Rattle.store.specs.Store.{image}
 use Rattle.store.specs.Lawful.{Lawful, Good}
-use Rattle.plain_file.specs.Plain.{File, Draft, Plain, closed, drafting, file_of}
+use Rattle.plain_file.specs.Plain.{Draft, Plain, closed, drafting, file_of}
 use Rattle.plain_file.specs.Claim.{AsLeft, dirty_of, record_of, cached_of, Lends, laid, leaves}
 
 -- an update v, on an image of z bytes b, that shows the draft

@@ -1,5 +1,5 @@
 -- 01's section "The plain file", sentence by sentence. It knows no frame, no cache and no superblock's bytes.
-use Rattle.std.specs.Prelude.{ℕ, zero, suc, ◌+◌, ◌-◌, ◌*◌, ◌/◌, max, Bool, true, false, not, cond, ◌&&◌, List, [], ◌∷◌, ◌++◌, ltb, leb, eqb, length, get_or}
+use Rattle.std.specs.Prelude.{ℕ, suc, ◌+◌, ◌-◌, ◌*◌, ◌/◌, max, Bool, true, false, not, cond, ◌&&◌, List, [], ◌∷◌, ◌++◌, ltb, leb, eqb, length, get_or}
 use Rattle.config.specs.Pages.{count}
 use Rattle.memory.specs.Bytes.{resize}
 use Rattle.meta.specs.declared.ZeroExtent.{ZeroExtent}

@@ -1,5 +1,5 @@
 -- The words of the claim at 01's sizes, with 01's superblock and hash.
-use Rattle.std.specs.Prelude.{ℕ, Bool, List, length}
+use Rattle.std.specs.Prelude.{ℕ, Bool, List}
 use Rattle.store.specs.declared.State.{State}
 use Rattle.store.specs.Codec.{real_codec}
 use Rattle.store.specs.Calls.{Call, Lent, Out, short, Mode, buffers_short}

@@ -1,14 +1,14 @@
 -- One call in an update: what is owed is paid, and the invariant holds again.
-use Rattle.std.specs.Prelude.{◌≡◌, not, cond, ◌&&◌, ◌||◌, leb, eqb, drop}
+use Rattle.std.specs.Prelude.{◌≡◌, ◌&&◌, ◌||◌, leb, eqb}
 use Rattle.std.proofs.Math.Path.{refl, sym, ap, subst, subst₂}
-use Rattle.std.proofs.Common.{◌∙◌, le-div_iff_mul-le, mul-le-mul_right, pos_of_ne-zero, length-take}
-use Prim.Native.Nat.{ℕ, zero, suc, ◌+◌, ◌-◌, ◌*◌, ◌/◌, ◌%◌, ◌≤◌, ◌<◌, max, min}
+use Rattle.std.proofs.Common.{◌∙◌, le-div_iff_mul-le, mul-le-mul_right, pos_of_ne-zero}
+use Prim.Native.Nat.{ℕ, ◌+◌, ◌*◌, ◌/◌, ◌≤◌, ◌<◌, max, min}
 use native.Mathlib.Omega.{arith}
 use Rattle.std.proofs.Math.Bool.{Bool, true, false}
-use mathlib.Core.List.{List, [], ◌∷◌, ◌++◌}
+use mathlib.Core.List.{List, []}
 use Rattle.std.proofs.Math.Dec.{ltb}
 use Rattle.std.proofs.Math.ListN.{length, get_or, take}
-use borrow.Author.Tests.{ltb-true, ltb-false, eqb-true, eqb-false, ne_eqb}
+use borrow.Author.Tests.{ltb-false, eqb-false, ne_eqb}
 use Rattle.config.specs.Pages.{count}
 use Rattle.config.specs.Refusals.{numbers_of}
 use Rattle.memory.specs.Laws.{split}
@@ -17,30 +17,27 @@ use Rattle.meta.specs.Runs.{numbers_of as runNumbers}
 use Rattle.runs.specs.FlatLaws.{length-numbers}
 use Rattle.extents.specs.Plan.{below}
 use Rattle.update.specs.declared.Overlay.{Overlay}
-use Rattle.update.specs.declared.Budget.{Budget}
-use Rattle.update.specs.Lists.{refill}
-use Rattle.update.specs.ListLaws.{clash, tests, take-alike, refill-length}
+use Rattle.update.specs.ListLaws.{clash, take-alike, refill-length}
 use Rattle.update.specs.Pages.{page_numbers, flat, add_numbers, add_number_if, partial, span, grown_numbers}
 use Rattle.update.specs.PageLaws.{numbers-length, flat-length}
 use Rattle.update.specs.Update.{Over, push_run, truncated, written, read_over, Tried, accepted, refused, left, try_write, try_truncate, truncate_reach}
-use Rattle.update.specs.Buffers.{Buffers, frame_count, entry_count, wiped, cached, short_buffers, view, overlay_of, put_back}
+use Rattle.update.specs.Buffers.{Buffers, frame_count, entry_count, cached, short_buffers, view, overlay_of, put_back}
 use Rattle.update.specs.BufferLaws.{cached_put, view_put}
-use Rattle.update.specs.Changes.{Like, write_like, truncate_like, write_numbers, write_recorded, truncate_numbers, truncate_recorded}
+use Rattle.update.specs.Changes.{write_like, truncate_like, write_numbers, write_recorded, truncate_numbers, truncate_recorded}
 use Rattle.update.specs.Refused.{Weak, all_sized, Outcome, write_out, truncate_out}
 use Rattle.update.specs.Reading.{Seen, read_seen, read_bytes_lem, seen_like}
 use Rattle.store.specs.declared.State.{State}
 use Rattle.store.specs.Cases.{no_or}
-use Rattle.store.specs.declared.Answer.{Answer}
-use Rattle.store.specs.declared.Answer.TheVariants.{Size, Read, Refused}
+use Rattle.store.specs.Answers.{Size, Read}
 use Rattle.store.specs.Codec.{Codec}
 use Rattle.store.specs.Blocks.{importing}
-use Rattle.store.specs.Calls.{Call, begin, read, write, truncate, commit, rollback, file_size, import_begin, import_chunk, import_finish, import_cancel, export, checksum, refresh, refresh_step, Lent, Out, number, uses, Mode, idle, update, mode_of, buffers_short, short, cleared, with_buffers}
-use Rattle.store.specs.Store.{working, budget_of, image, full, answer_of, in_update, commit_over, do_begin, act, swept}
+use Rattle.store.specs.Calls.{Call, begin, read, write, truncate, commit, rollback, file_size, import_begin, import_chunk, import_finish, import_cancel, export, checksum, refresh, refresh_step, Lent, Out, number, uses, Mode, update, mode_of, buffers_short, short, cleared, with_buffers}
+use Rattle.store.specs.Store.{working, budget_of, image, answer_of, in_update, commit_over, do_begin, act, swept}
 use Rattle.store.specs.Lawful.{Lawful, Good}
 use Rattle.plain_file.specs.PlainLaws.{run_pushed, runs_pushed, pages_same, within_same, grown_same}
-use Rattle.plain_file.specs.Plain.{File, Draft, Plain, closed, drafting, draft_write, draft_truncate, spoil, verdict_number, file_ground, file_of, from_memory, changed, committed as committedFile, plain_step}
-use Rattle.plain_file.specs.Claim.{Reads, Kept, Unspoiled, Owed, dirty_of, record_of, cached_of, Lends, laid, leaves, told, at_begin, Word}
-use Rattle.plain_file.specs.Invariant.{Draws, Facts, Busy, Inv, InvMode, Near, Long, laid_long, laid_back, good_near, file_near, inv_near, inv_long, inv_back, inv_out}
+use Rattle.plain_file.specs.Plain.{File, Draft, Plain, closed, drafting, draft_write, draft_truncate, spoil, file_of, from_memory, changed, committed as committedFile, plain_step}
+use Rattle.plain_file.specs.Claim.{Unspoiled, Owed, Lends, laid, leaves, told, at_begin, Word}
+use Rattle.plain_file.specs.Invariant.{Draws, Facts, Inv, InvMode, Near, Long, laid_long, laid_back, good_near, file_near, inv_near, inv_long, inv_back, inv_out}
 use Rattle.plain_file.specs.Ends.{Committed, committed}
 
 module _ (P S C L M : ℕ) (k : Codec) where

@@ -1,10 +1,10 @@
 -- The claim has teeth: eleven wrong stores do not meet it. Each is our store, at small sizes, with something done wrong; a concrete list of calls shows the read,
 -- the ground or the length that differs.
-use Rattle.std.specs.Prelude.{◌≡◌, refl, ℕ, zero, suc, ◌+◌, ◌-◌, ◌*◌, ◌/◌, ◌≤◌, ◌<◌, Bool, true, false, not, cond, ◌&&◌, List, [], ◌∷◌, ◌++◌, ltb, leb, eqb, length, take, drop, get_or}
+use Rattle.std.specs.Prelude.{◌≡◌, refl, ℕ, zero, suc, ◌+◌, ◌/◌, ◌≤◌, Bool, true, false, cond, ◌&&◌, List, [], ◌∷◌, ◌++◌, ltb, length, take, drop}
 use Rattle.std.proofs.Common.{arith, ltb-true}
 use Rattle.config.specs.Pages.{count}
 use Rattle.config.specs.declared.refusal.Refusal.TheVariants.{OffsetOverflow, ZeroExtentLimitExceeded, BufferTooShort}
-use Rattle.memory.specs.Bytes.{zeros, overwrite, resize}
+use Rattle.memory.specs.Bytes.{zeros, overwrite, resize, filled}
 use Rattle.memory.specs.Laws.{split}
 use Rattle.memory.specs.Growth.{grow_to as growMemory, required as requiredPages}
 use Rattle.meta.specs.declared.superblock.Superblock.{Superblock}
@@ -17,18 +17,18 @@ use Rattle.extents.specs.Plan.{additions, add_one, remain, plan}
 use Rattle.update.specs.declared.Overlay.{Overlay}
 use Rattle.update.specs.Lists.{put, refill, tabulate}
 use Rattle.update.specs.ListLaws.{clash}
-use Rattle.update.specs.Pages.{page_byte, add_number_if, span, grown_numbers}
+use Rattle.update.specs.Pages.{add_number_if, span, grown_numbers}
 use Rattle.update.specs.Image.{image_byte, image_page}
-use Rattle.update.specs.Update.{Over, push_run, raw, over_byte, budget_bytes, raised, touch, blank, copy, stretch, patch, finish, grow, grow_to, chop, tail, truncated, whole_page, over_write, written, fresh, look_up, Tried, accepted, refused, sized, passing, marked, try_touch, try_patch, try_finish, try_grow, try_grow_to, try_tail, try_chop, try_truncate, try_write}
-use Rattle.update.specs.Buffers.{Buffers, frame_count, entry_count, wiped, cached, short_buffers, view, overlay_of, put_back}
+use Rattle.update.specs.Update.{Over, push_run, raw, over_byte, budget_bytes, raised, touch, blank, copy, stretch, patch, finish, grow, grow_to, chop, tail, truncated, whole_page, over_write, written, fresh, look_up, accepted, sized, passing, marked, try_touch, try_patch, try_finish, try_grow, try_grow_to, try_tail, try_chop, try_truncate, try_write}
+use Rattle.update.specs.Buffers.{frame_count, entry_count, wiped, cached, short_buffers, view, overlay_of, put_back}
 use Rattle.store.specs.declared.State.{State}
-use Rattle.store.specs.declared.Answer.TheVariants.{Done, Read, Refused}
-use Rattle.store.specs.Codec.{Codec, stored}
+use Rattle.store.specs.Answers.{Done, Read, Refused}
+use Rattle.store.specs.Codec.{stored}
 use Rattle.store.specs.Small.{small_codec, small_sum, small_decode, small_runs, small_load, small_fresh, small_lawful}
 use Rattle.store.specs.Blocks.{importing, stale, refreshing, marks, after_commit}
-use Rattle.store.specs.Calls.{Call, begin, read, write, truncate, commit, rollback, file_size, import_begin, import_chunk, import_finish, import_cancel, export, checksum, refresh, refresh_step, Lent, Out, out, number, Mode, idle, update, mode_of, short, with_mem, with_buffers}
+use Rattle.store.specs.Calls.{Call, begin, read, write, truncate, commit, rollback, file_size, import_begin, import_chunk, import_finish, import_cancel, export, checksum, refresh, refresh_step, Lent, Out, out, number, Mode, idle, update, mode_of, short, with_mem}
 use Rattle.store.specs.Plan.{store_plan}
-use Rattle.store.specs.Store.{refuse, working, no_overlay, ended, image, image_bytes, over, unchanged, planned_runs, commit_over, in_update, store}
+use Rattle.store.specs.Store.{refuse, working, no_overlay, image, image_bytes, over, unchanged, planned_runs, commit_over, in_update, store}
 use Rattle.store.specs.Opening.{outside, open_image, closing, open'}
 use Rattle.plain_file.specs.Plain.{closed, copied, spoil, new_run, pages_with, ends_within, grown_dirty, draft_write, draft_truncate, ground, file_ground, file_of}
 use Rattle.plain_file.specs.Claim.{Step, Lends, laid, leaves, Turn, Promise, Claim}
@@ -89,27 +89,27 @@ all_bytes_lem (x ∷ l) h (suc i) = split (ltb x 256) (λ t. all_bytes_lem l (rw
 
 -- both images are accepted
 accepted4 : number (open' 2 24 1 3 1000 small_codec 2 (lent_with 4).mem).answer ≡ 0
-unfolding count zeros overwrite resize growMemory requiredPages normalized within merge insert add around remove flatRuns additions add_one remain plan put refill tabulate add_number_if span grown_numbers image_byte image_page push_run raw over_byte budget_bytes raised touch blank copy stretch patch finish grow grow_to chop tail truncated whole_page over_write written fresh look_up sized passing marked try_touch try_patch try_finish try_grow try_grow_to try_tail try_chop try_truncate try_write frame_count entry_count wiped cached short_buffers view overlay_of put_back stored small_codec small_sum small_decode small_runs small_load small_fresh importing stale refreshing marks after_commit short store_plan no_overlay image_bytes unchanged planned_runs commit_over store outside open_image closing open' copied spoil new_run pages_with ends_within grown_dirty draft_write draft_truncate ground file_ground file_of laid leaves lent_with
+unfolding count filled overwrite resize growMemory requiredPages normalized within merge insert add around remove flatRuns additions add_one remain plan put refill tabulate add_number_if span grown_numbers image_byte image_page push_run raw over_byte budget_bytes raised touch blank copy stretch patch finish grow grow_to chop tail truncated whole_page over_write written fresh look_up sized passing marked try_touch try_patch try_finish try_grow try_grow_to try_tail try_chop try_truncate try_write frame_count entry_count wiped cached short_buffers view overlay_of put_back stored small_codec small_sum small_decode small_runs small_load small_fresh importing stale refreshing marks after_commit short store_plan no_overlay image_bytes unchanged planned_runs commit_over store outside open_image closing open' copied spoil new_run pages_with ends_within grown_dirty draft_write draft_truncate ground file_ground file_of laid leaves lent_with
 accepted4 = refl
 
 accepted3 : number (open' 2 24 1 3 1000 small_codec 2 (lent_with 3).mem).answer ≡ 0
-unfolding count zeros overwrite resize growMemory requiredPages normalized within merge insert add around remove flatRuns additions add_one remain plan put refill tabulate add_number_if span grown_numbers image_byte image_page push_run raw over_byte budget_bytes raised touch blank copy stretch patch finish grow grow_to chop tail truncated whole_page over_write written fresh look_up sized passing marked try_touch try_patch try_finish try_grow try_grow_to try_tail try_chop try_truncate try_write frame_count entry_count wiped cached short_buffers view overlay_of put_back stored small_codec small_sum small_decode small_runs small_load small_fresh importing stale refreshing marks after_commit short store_plan no_overlay image_bytes unchanged planned_runs commit_over store outside open_image closing open' copied spoil new_run pages_with ends_within grown_dirty draft_write draft_truncate ground file_ground file_of laid leaves lent_with
+unfolding count filled overwrite resize growMemory requiredPages normalized within merge insert add around remove flatRuns additions add_one remain plan put refill tabulate add_number_if span grown_numbers image_byte image_page push_run raw over_byte budget_bytes raised touch blank copy stretch patch finish grow grow_to chop tail truncated whole_page over_write written fresh look_up sized passing marked try_touch try_patch try_finish try_grow try_grow_to try_tail try_chop try_truncate try_write frame_count entry_count wiped cached short_buffers view overlay_of put_back stored small_codec small_sum small_decode small_runs small_load small_fresh importing stale refreshing marks after_commit short store_plan no_overlay image_bytes unchanged planned_runs commit_over store outside open_image closing open' copied spoil new_run pages_with ends_within grown_dirty draft_write draft_truncate ground file_ground file_of laid leaves lent_with
 accepted3 = refl
 
 bytes4 : all_bytes (lent_with 4).mem ≡ true
-unfolding count zeros overwrite resize growMemory requiredPages normalized within merge insert add around remove flatRuns additions add_one remain plan put refill tabulate add_number_if span grown_numbers image_byte image_page push_run raw over_byte budget_bytes raised touch blank copy stretch patch finish grow grow_to chop tail truncated whole_page over_write written fresh look_up sized passing marked try_touch try_patch try_finish try_grow try_grow_to try_tail try_chop try_truncate try_write frame_count entry_count wiped cached short_buffers view overlay_of put_back stored small_codec small_sum small_decode small_runs small_load small_fresh importing stale refreshing marks after_commit short store_plan no_overlay image_bytes unchanged planned_runs commit_over store outside open_image closing open' copied spoil new_run pages_with ends_within grown_dirty draft_write draft_truncate ground file_ground file_of laid leaves lent_with
+unfolding count filled overwrite resize growMemory requiredPages normalized within merge insert add around remove flatRuns additions add_one remain plan put refill tabulate add_number_if span grown_numbers image_byte image_page push_run raw over_byte budget_bytes raised touch blank copy stretch patch finish grow grow_to chop tail truncated whole_page over_write written fresh look_up sized passing marked try_touch try_patch try_finish try_grow try_grow_to try_tail try_chop try_truncate try_write frame_count entry_count wiped cached short_buffers view overlay_of put_back stored small_codec small_sum small_decode small_runs small_load small_fresh importing stale refreshing marks after_commit short store_plan no_overlay image_bytes unchanged planned_runs commit_over store outside open_image closing open' copied spoil new_run pages_with ends_within grown_dirty draft_write draft_truncate ground file_ground file_of laid leaves lent_with
 bytes4 = refl
 
 bytes3 : all_bytes (lent_with 3).mem ≡ true
-unfolding count zeros overwrite resize growMemory requiredPages normalized within merge insert add around remove flatRuns additions add_one remain plan put refill tabulate add_number_if span grown_numbers image_byte image_page push_run raw over_byte budget_bytes raised touch blank copy stretch patch finish grow grow_to chop tail truncated whole_page over_write written fresh look_up sized passing marked try_touch try_patch try_finish try_grow try_grow_to try_tail try_chop try_truncate try_write frame_count entry_count wiped cached short_buffers view overlay_of put_back stored small_codec small_sum small_decode small_runs small_load small_fresh importing stale refreshing marks after_commit short store_plan no_overlay image_bytes unchanged planned_runs commit_over store outside open_image closing open' copied spoil new_run pages_with ends_within grown_dirty draft_write draft_truncate ground file_ground file_of laid leaves lent_with
+unfolding count filled overwrite resize growMemory requiredPages normalized within merge insert add around remove flatRuns additions add_one remain plan put refill tabulate add_number_if span grown_numbers image_byte image_page push_run raw over_byte budget_bytes raised touch blank copy stretch patch finish grow grow_to chop tail truncated whole_page over_write written fresh look_up sized passing marked try_touch try_patch try_finish try_grow try_grow_to try_tail try_chop try_truncate try_write frame_count entry_count wiped cached short_buffers view overlay_of put_back stored small_codec small_sum small_decode small_runs small_load small_fresh importing stale refreshing marks after_commit short store_plan no_overlay image_bytes unchanged planned_runs commit_over store outside open_image closing open' copied spoil new_run pages_with ends_within grown_dirty draft_write draft_truncate ground file_ground file_of laid leaves lent_with
 bytes3 = refl
 
 long4 : length (lent_with 4).mem ≤ 1000
-unfolding count zeros overwrite resize growMemory requiredPages normalized within merge insert add around remove flatRuns additions add_one remain plan put refill tabulate add_number_if span grown_numbers image_byte image_page push_run raw over_byte budget_bytes raised touch blank copy stretch patch finish grow grow_to chop tail truncated whole_page over_write written fresh look_up sized passing marked try_touch try_patch try_finish try_grow try_grow_to try_tail try_chop try_truncate try_write frame_count entry_count wiped cached short_buffers view overlay_of put_back stored small_codec small_sum small_decode small_runs small_load small_fresh importing stale refreshing marks after_commit short store_plan no_overlay image_bytes unchanged planned_runs commit_over store outside open_image closing open' copied spoil new_run pages_with ends_within grown_dirty draft_write draft_truncate ground file_ground file_of laid leaves lent_with
+unfolding count filled overwrite resize growMemory requiredPages normalized within merge insert add around remove flatRuns additions add_one remain plan put refill tabulate add_number_if span grown_numbers image_byte image_page push_run raw over_byte budget_bytes raised touch blank copy stretch patch finish grow grow_to chop tail truncated whole_page over_write written fresh look_up sized passing marked try_touch try_patch try_finish try_grow try_grow_to try_tail try_chop try_truncate try_write frame_count entry_count wiped cached short_buffers view overlay_of put_back stored small_codec small_sum small_decode small_runs small_load small_fresh importing stale refreshing marks after_commit short store_plan no_overlay image_bytes unchanged planned_runs commit_over store outside open_image closing open' copied spoil new_run pages_with ends_within grown_dirty draft_write draft_truncate ground file_ground file_of laid leaves lent_with
 long4 = omega arith
 
 long3 : length (lent_with 3).mem ≤ 1000
-unfolding count zeros overwrite resize growMemory requiredPages normalized within merge insert add around remove flatRuns additions add_one remain plan put refill tabulate add_number_if span grown_numbers image_byte image_page push_run raw over_byte budget_bytes raised touch blank copy stretch patch finish grow grow_to chop tail truncated whole_page over_write written fresh look_up sized passing marked try_touch try_patch try_finish try_grow try_grow_to try_tail try_chop try_truncate try_write frame_count entry_count wiped cached short_buffers view overlay_of put_back stored small_codec small_sum small_decode small_runs small_load small_fresh importing stale refreshing marks after_commit short store_plan no_overlay image_bytes unchanged planned_runs commit_over store outside open_image closing open' copied spoil new_run pages_with ends_within grown_dirty draft_write draft_truncate ground file_ground file_of laid leaves lent_with
+unfolding count filled overwrite resize growMemory requiredPages normalized within merge insert add around remove flatRuns additions add_one remain plan put refill tabulate add_number_if span grown_numbers image_byte image_page push_run raw over_byte budget_bytes raised touch blank copy stretch patch finish grow grow_to chop tail truncated whole_page over_write written fresh look_up sized passing marked try_touch try_patch try_finish try_grow try_grow_to try_tail try_chop try_truncate try_write frame_count entry_count wiped cached short_buffers view overlay_of put_back stored small_codec small_sum small_decode small_runs small_load small_fresh importing stale refreshing marks after_commit short store_plan no_overlay image_bytes unchanged planned_runs commit_over store outside open_image closing open' copied spoil new_run pages_with ends_within grown_dirty draft_write draft_truncate ground file_ground file_of laid leaves lent_with
 long3 = omega arith
 
 promised4 : (step : Step) → Small step → (cs : List Call) → Promised step 4 cs
@@ -165,7 +165,7 @@ unfoldable size_only_calls : List Call
 size_only_calls = begin0 ∷ write 0 (9 ∷ []) ∷ commit ∷ read 0 (zeros 3) ∷ []
 
 size_only-shows : Promised size_only 4 size_only_calls → ◌≡◌ {A = List ℕ} (5 ∷ 6 ∷ 7 ∷ []) (9 ∷ 6 ∷ 7 ∷ [])
-unfolding count zeros overwrite resize growMemory requiredPages normalized within merge insert add around remove flatRuns additions add_one remain plan put refill tabulate add_number_if span grown_numbers image_byte image_page push_run raw over_byte budget_bytes raised touch blank copy stretch patch finish grow grow_to chop tail truncated whole_page over_write written fresh look_up sized passing marked try_touch try_patch try_finish try_grow try_grow_to try_tail try_chop try_truncate try_write frame_count entry_count wiped cached short_buffers view overlay_of put_back stored small_codec small_sum small_decode small_runs small_load small_fresh importing stale refreshing marks after_commit short store_plan no_overlay image_bytes unchanged planned_runs commit_over store outside open_image closing open' copied spoil new_run pages_with ends_within grown_dirty draft_write draft_truncate ground file_ground file_of laid leaves lent_with right begin0 size_only_calls size_only
+unfolding count filled overwrite resize growMemory requiredPages normalized within merge insert add around remove flatRuns additions add_one remain plan put refill tabulate add_number_if span grown_numbers image_byte image_page push_run raw over_byte budget_bytes raised touch blank copy stretch patch finish grow grow_to chop tail truncated whole_page over_write written fresh look_up sized passing marked try_touch try_patch try_finish try_grow try_grow_to try_tail try_chop try_truncate try_write frame_count entry_count wiped cached short_buffers view overlay_of put_back stored small_codec small_sum small_decode small_runs small_load small_fresh importing stale refreshing marks after_commit short store_plan no_overlay image_bytes unchanged planned_runs commit_over store outside open_image closing open' copied spoil new_run pages_with ends_within grown_dirty draft_write draft_truncate ground file_ground file_of laid leaves lent_with right begin0 size_only_calls size_only
 size_only-shows h = ((((h (lends_self _ _) tt).2 (lends_self _ _) tt).2 (lends_self _ _) tt).2 (lends_self _ _) tt).0.shown
 
 pub size_only-fails : Small size_only → ⊥
@@ -189,7 +189,7 @@ unfoldable idler_calls : List Call
 idler_calls = begin0 ∷ write 0 (9 ∷ []) ∷ commit ∷ read 0 (zeros 3) ∷ []
 
 idler_shows : Promised idler 4 idler_calls → ◌≡◌ {A = List ℕ} (5 ∷ 6 ∷ 7 ∷ []) (9 ∷ 6 ∷ 7 ∷ [])
-unfolding count zeros overwrite resize growMemory requiredPages normalized within merge insert add around remove flatRuns additions add_one remain plan put refill tabulate add_number_if span grown_numbers image_byte image_page push_run raw over_byte budget_bytes raised touch blank copy stretch patch finish grow grow_to chop tail truncated whole_page over_write written fresh look_up sized passing marked try_touch try_patch try_finish try_grow try_grow_to try_tail try_chop try_truncate try_write frame_count entry_count wiped cached short_buffers view overlay_of put_back stored small_codec small_sum small_decode small_runs small_load small_fresh importing stale refreshing marks after_commit short store_plan no_overlay image_bytes unchanged planned_runs commit_over store outside open_image closing open' copied spoil new_run pages_with ends_within grown_dirty draft_write draft_truncate ground file_ground file_of laid leaves lent_with right begin0 idler_calls idler
+unfolding count filled overwrite resize growMemory requiredPages normalized within merge insert add around remove flatRuns additions add_one remain plan put refill tabulate add_number_if span grown_numbers image_byte image_page push_run raw over_byte budget_bytes raised touch blank copy stretch patch finish grow grow_to chop tail truncated whole_page over_write written fresh look_up sized passing marked try_touch try_patch try_finish try_grow try_grow_to try_tail try_chop try_truncate try_write frame_count entry_count wiped cached short_buffers view overlay_of put_back stored small_codec small_sum small_decode small_runs small_load small_fresh importing stale refreshing marks after_commit short store_plan no_overlay image_bytes unchanged planned_runs commit_over store outside open_image closing open' copied spoil new_run pages_with ends_within grown_dirty draft_write draft_truncate ground file_ground file_of laid leaves lent_with right begin0 idler_calls idler
 idler_shows h = ((((h (lends_self _ _) tt).2 (lends_self _ _) tt).2 (lends_self _ _) tt).2 (lends_self _ _) tt).0.shown
 
 pub idler_fails : Small idler → ⊥
@@ -221,7 +221,7 @@ unfoldable first_page_calls : List Call
 first_page_calls = begin0 ∷ write 1 (9 ∷ 9 ∷ []) ∷ read 0 (zeros 4) ∷ []
 
 first_page-shows : Promised first_page 4 first_page_calls → ◌≡◌ {A = List ℕ} (5 ∷ 9 ∷ 7 ∷ 8 ∷ []) (5 ∷ 9 ∷ 9 ∷ 8 ∷ [])
-unfolding count zeros overwrite resize growMemory requiredPages normalized within merge insert add around remove flatRuns additions add_one remain plan put refill tabulate add_number_if span grown_numbers image_byte image_page push_run raw over_byte budget_bytes raised touch blank copy stretch patch finish grow grow_to chop tail truncated whole_page over_write written fresh look_up sized passing marked try_touch try_patch try_finish try_grow try_grow_to try_tail try_chop try_truncate try_write frame_count entry_count wiped cached short_buffers view overlay_of put_back stored small_codec small_sum small_decode small_runs small_load small_fresh importing stale refreshing marks after_commit short store_plan no_overlay image_bytes unchanged planned_runs commit_over store outside open_image closing open' copied spoil new_run pages_with ends_within grown_dirty draft_write draft_truncate ground file_ground file_of laid leaves lent_with right begin0 first_page_calls first_page
+unfolding count filled overwrite resize growMemory requiredPages normalized within merge insert add around remove flatRuns additions add_one remain plan put refill tabulate add_number_if span grown_numbers image_byte image_page push_run raw over_byte budget_bytes raised touch blank copy stretch patch finish grow grow_to chop tail truncated whole_page over_write written fresh look_up sized passing marked try_touch try_patch try_finish try_grow try_grow_to try_tail try_chop try_truncate try_write frame_count entry_count wiped cached short_buffers view overlay_of put_back stored small_codec small_sum small_decode small_runs small_load small_fresh importing stale refreshing marks after_commit short store_plan no_overlay image_bytes unchanged planned_runs commit_over store outside open_image closing open' copied spoil new_run pages_with ends_within grown_dirty draft_write draft_truncate ground file_ground file_of laid leaves lent_with right begin0 first_page_calls first_page
 first_page-shows h = (((h (lends_self _ _) tt).2 (lends_self _ _) tt).2 (lends_self _ _) tt).0.shown
 
 pub first_page-fails : Small first_page → ⊥
@@ -245,7 +245,7 @@ unfoldable blind_calls : List Call
 blind_calls = read 0 (zeros 3) ∷ []
 
 blind_shows : Promised blind 4 blind_calls → ◌≡◌ {A = List ℕ} (0 ∷ 0 ∷ 0 ∷ []) (5 ∷ 6 ∷ 7 ∷ [])
-unfolding count zeros overwrite resize growMemory requiredPages normalized within merge insert add around remove flatRuns additions add_one remain plan put refill tabulate add_number_if span grown_numbers image_byte image_page push_run raw over_byte budget_bytes raised touch blank copy stretch patch finish grow grow_to chop tail truncated whole_page over_write written fresh look_up sized passing marked try_touch try_patch try_finish try_grow try_grow_to try_tail try_chop try_truncate try_write frame_count entry_count wiped cached short_buffers view overlay_of put_back stored small_codec small_sum small_decode small_runs small_load small_fresh importing stale refreshing marks after_commit short store_plan no_overlay image_bytes unchanged planned_runs commit_over store outside open_image closing open' copied spoil new_run pages_with ends_within grown_dirty draft_write draft_truncate ground file_ground file_of laid leaves lent_with right begin0 blind_calls blind
+unfolding count filled overwrite resize growMemory requiredPages normalized within merge insert add around remove flatRuns additions add_one remain plan put refill tabulate add_number_if span grown_numbers image_byte image_page push_run raw over_byte budget_bytes raised touch blank copy stretch patch finish grow grow_to chop tail truncated whole_page over_write written fresh look_up sized passing marked try_touch try_patch try_finish try_grow try_grow_to try_tail try_chop try_truncate try_write frame_count entry_count wiped cached short_buffers view overlay_of put_back stored small_codec small_sum small_decode small_runs small_load small_fresh importing stale refreshing marks after_commit short store_plan no_overlay image_bytes unchanged planned_runs commit_over store outside open_image closing open' copied spoil new_run pages_with ends_within grown_dirty draft_write draft_truncate ground file_ground file_of laid leaves lent_with right begin0 blind_calls blind
 blind_shows h = (h (lends_self _ _) tt).0.shown
 
 pub blind_fails : Small blind → ⊥
@@ -269,7 +269,7 @@ unfoldable never_calls : List Call
 never_calls = begin0 ∷ write 0 (9 ∷ []) ∷ commit ∷ []
 
 never_shows : Promised never 4 never_calls → ◌≡◌ {A = ℕ} (31) (0)
-unfolding count zeros overwrite resize growMemory requiredPages normalized within merge insert add around remove flatRuns additions add_one remain plan put refill tabulate add_number_if span grown_numbers image_byte image_page push_run raw over_byte budget_bytes raised touch blank copy stretch patch finish grow grow_to chop tail truncated whole_page over_write written fresh look_up sized passing marked try_touch try_patch try_finish try_grow try_grow_to try_tail try_chop try_truncate try_write frame_count entry_count wiped cached short_buffers view overlay_of put_back stored small_codec small_sum small_decode small_runs small_load small_fresh importing stale refreshing marks after_commit short store_plan no_overlay image_bytes unchanged planned_runs commit_over store outside open_image closing open' copied spoil new_run pages_with ends_within grown_dirty draft_write draft_truncate ground file_ground file_of laid leaves lent_with right begin0 never_calls never
+unfolding count filled overwrite resize growMemory requiredPages normalized within merge insert add around remove flatRuns additions add_one remain plan put refill tabulate add_number_if span grown_numbers image_byte image_page push_run raw over_byte budget_bytes raised touch blank copy stretch patch finish grow grow_to chop tail truncated whole_page over_write written fresh look_up sized passing marked try_touch try_patch try_finish try_grow try_grow_to try_tail try_chop try_truncate try_write frame_count entry_count wiped cached short_buffers view overlay_of put_back stored small_codec small_sum small_decode small_runs small_load small_fresh importing stale refreshing marks after_commit short store_plan no_overlay image_bytes unchanged planned_runs commit_over store outside open_image closing open' copied spoil new_run pages_with ends_within grown_dirty draft_write draft_truncate ground file_ground file_of laid leaves lent_with right begin0 never_calls never
 never_shows h = (((h (lends_self _ _) tt).2 (lends_self _ _) tt).2 (lends_self _ _) tt).0.0
 
 pub never_fails : Small never → ⊥
@@ -299,7 +299,7 @@ unfoldable end_only_calls : List Call
 end_only_calls = begin0 ∷ write 2 (9 ∷ []) ∷ truncate 2 ∷ truncate 4 ∷ read 2 (zeros 1) ∷ []
 
 end_only-shows : Promised end_only 4 end_only_calls → ◌≡◌ {A = List ℕ} (9 ∷ []) (0 ∷ [])
-unfolding count zeros overwrite resize growMemory requiredPages normalized within merge insert add around remove flatRuns additions add_one remain plan put refill tabulate add_number_if span grown_numbers image_byte image_page push_run raw over_byte budget_bytes raised touch blank copy stretch patch finish grow grow_to chop tail truncated whole_page over_write written fresh look_up sized passing marked try_touch try_patch try_finish try_grow try_grow_to try_tail try_chop try_truncate try_write frame_count entry_count wiped cached short_buffers view overlay_of put_back stored small_codec small_sum small_decode small_runs small_load small_fresh importing stale refreshing marks after_commit short store_plan no_overlay image_bytes unchanged planned_runs commit_over store outside open_image closing open' copied spoil new_run pages_with ends_within grown_dirty draft_write draft_truncate ground file_ground file_of laid leaves lent_with right begin0 end_only_calls end_only
+unfolding count filled overwrite resize growMemory requiredPages normalized within merge insert add around remove flatRuns additions add_one remain plan put refill tabulate add_number_if span grown_numbers image_byte image_page push_run raw over_byte budget_bytes raised touch blank copy stretch patch finish grow grow_to chop tail truncated whole_page over_write written fresh look_up sized passing marked try_touch try_patch try_finish try_grow try_grow_to try_tail try_chop try_truncate try_write frame_count entry_count wiped cached short_buffers view overlay_of put_back stored small_codec small_sum small_decode small_runs small_load small_fresh importing stale refreshing marks after_commit short store_plan no_overlay image_bytes unchanged planned_runs commit_over store outside open_image closing open' copied spoil new_run pages_with ends_within grown_dirty draft_write draft_truncate ground file_ground file_of laid leaves lent_with right begin0 end_only_calls end_only
 end_only-shows h = (((((h (lends_self _ _) tt).2 (lends_self _ _) tt).2 (lends_self _ _) (omega arith)).2 (lends_self _ _) (omega arith)).2 (lends_self _ _) tt).0.shown
 
 pub end_only-fails : Small end_only → ⊥
@@ -330,7 +330,7 @@ unfoldable record_first_calls : List Call
 record_first_calls = begin0 ∷ write 4 (9 ∷ []) ∷ read 4 (zeros 1) ∷ []
 
 record_first-shows : Promised record_first 4 record_first_calls → ◌≡◌ {A = List ℕ} (0 ∷ []) (9 ∷ [])
-unfolding count zeros overwrite resize growMemory requiredPages normalized within merge insert add around remove flatRuns additions add_one remain plan put refill tabulate add_number_if span grown_numbers image_byte image_page push_run raw over_byte budget_bytes raised touch blank copy stretch patch finish grow grow_to chop tail truncated whole_page over_write written fresh look_up sized passing marked try_touch try_patch try_finish try_grow try_grow_to try_tail try_chop try_truncate try_write frame_count entry_count wiped cached short_buffers view overlay_of put_back stored small_codec small_sum small_decode small_runs small_load small_fresh importing stale refreshing marks after_commit short store_plan no_overlay image_bytes unchanged planned_runs commit_over store outside open_image closing open' copied spoil new_run pages_with ends_within grown_dirty draft_write draft_truncate ground file_ground file_of laid leaves lent_with right begin0 record_first_calls record_first
+unfolding count filled overwrite resize growMemory requiredPages normalized within merge insert add around remove flatRuns additions add_one remain plan put refill tabulate add_number_if span grown_numbers image_byte image_page push_run raw over_byte budget_bytes raised touch blank copy stretch patch finish grow grow_to chop tail truncated whole_page over_write written fresh look_up sized passing marked try_touch try_patch try_finish try_grow try_grow_to try_tail try_chop try_truncate try_write frame_count entry_count wiped cached short_buffers view overlay_of put_back stored small_codec small_sum small_decode small_runs small_load small_fresh importing stale refreshing marks after_commit short store_plan no_overlay image_bytes unchanged planned_runs commit_over store outside open_image closing open' copied spoil new_run pages_with ends_within grown_dirty draft_write draft_truncate ground file_ground file_of laid leaves lent_with right begin0 record_first_calls record_first
 record_first-shows h = (((h (lends_self _ _) tt).2 (lends_self _ _) tt).2 (lends_self _ _) tt).0.shown
 
 pub record_first-fails : Small record_first → ⊥
@@ -364,7 +364,7 @@ unfoldable trusting_calls : List Call
 trusting_calls = begin0 ∷ truncate 4 ∷ commit ∷ read 3 (zeros 1) ∷ []
 
 trusting_shows : Promised trusting 3 trusting_calls → ◌≡◌ {A = List ℕ} (8 ∷ []) (0 ∷ [])
-unfolding count zeros overwrite resize growMemory requiredPages normalized within merge insert add around remove flatRuns additions add_one remain plan put refill tabulate add_number_if span grown_numbers image_byte image_page push_run raw over_byte budget_bytes raised touch blank copy stretch patch finish grow grow_to chop tail truncated whole_page over_write written fresh look_up sized passing marked try_touch try_patch try_finish try_grow try_grow_to try_tail try_chop try_truncate try_write frame_count entry_count wiped cached short_buffers view overlay_of put_back stored small_codec small_sum small_decode small_runs small_load small_fresh importing stale refreshing marks after_commit short store_plan no_overlay image_bytes unchanged planned_runs commit_over store outside open_image closing open' copied spoil new_run pages_with ends_within grown_dirty draft_write draft_truncate ground file_ground file_of laid leaves lent_with right begin0 trusting_calls trusting
+unfolding count filled overwrite resize growMemory requiredPages normalized within merge insert add around remove flatRuns additions add_one remain plan put refill tabulate add_number_if span grown_numbers image_byte image_page push_run raw over_byte budget_bytes raised touch blank copy stretch patch finish grow grow_to chop tail truncated whole_page over_write written fresh look_up sized passing marked try_touch try_patch try_finish try_grow try_grow_to try_tail try_chop try_truncate try_write frame_count entry_count wiped cached short_buffers view overlay_of put_back stored small_codec small_sum small_decode small_runs small_load small_fresh importing stale refreshing marks after_commit short store_plan no_overlay image_bytes unchanged planned_runs commit_over store outside open_image closing open' copied spoil new_run pages_with ends_within grown_dirty draft_write draft_truncate ground file_ground file_of laid leaves lent_with right begin0 trusting_calls trusting
 trusting_shows h = ((((h (lends_self _ _) tt).2 (lends_self _ _) (omega arith)).2 (lends_self _ _) tt).2 (lends_self _ _) tt).0.shown
 
 pub trusting_fails : Small trusting → ⊥
@@ -384,7 +384,7 @@ unfoldable hoard_calls : List Call
 hoard_calls = read 0 (zeros 3) ∷ []
 
 hoard_shows : Promised hoard 4 hoard_calls → 24048 ≤ 48
-unfolding count zeros overwrite resize growMemory requiredPages normalized within merge insert add around remove flatRuns additions add_one remain plan put refill tabulate add_number_if span grown_numbers image_byte image_page push_run raw over_byte budget_bytes raised touch blank copy stretch patch finish grow grow_to chop tail truncated whole_page over_write written fresh look_up sized passing marked try_touch try_patch try_finish try_grow try_grow_to try_tail try_chop try_truncate try_write frame_count entry_count wiped cached short_buffers view overlay_of put_back stored small_codec small_sum small_decode small_runs small_load small_fresh importing stale refreshing marks after_commit short store_plan no_overlay image_bytes unchanged planned_runs commit_over store outside open_image closing open' copied spoil new_run pages_with ends_within grown_dirty draft_write draft_truncate ground file_ground file_of laid leaves lent_with right hoard_calls hoard
+unfolding count filled overwrite resize growMemory requiredPages normalized within merge insert add around remove flatRuns additions add_one remain plan put refill tabulate add_number_if span grown_numbers image_byte image_page push_run raw over_byte budget_bytes raised touch blank copy stretch patch finish grow grow_to chop tail truncated whole_page over_write written fresh look_up sized passing marked try_touch try_patch try_finish try_grow try_grow_to try_tail try_chop try_truncate try_write frame_count entry_count wiped cached short_buffers view overlay_of put_back stored small_codec small_sum small_decode small_runs small_load small_fresh importing stale refreshing marks after_commit short store_plan no_overlay image_bytes unchanged planned_runs commit_over store outside open_image closing open' copied spoil new_run pages_with ends_within grown_dirty draft_write draft_truncate ground file_ground file_of laid leaves lent_with right hoard_calls hoard
 hoard_shows h = (h (lends_self _ _) tt).1.memory (omega arith)
 
 pub hoard_fails : Small hoard → ⊥
@@ -405,7 +405,7 @@ unfoldable greedy_calls : List Call
 greedy_calls = begin0 ∷ []
 
 greedy_shows : Promised greedy 4 greedy_calls → ◌≡◌ {A = Bool} true false
-unfolding count zeros overwrite resize growMemory requiredPages normalized within merge insert add around remove flatRuns additions add_one remain plan put refill tabulate add_number_if span grown_numbers image_byte image_page push_run raw over_byte budget_bytes raised touch blank copy stretch patch finish grow grow_to chop tail truncated whole_page over_write written fresh look_up sized passing marked try_touch try_patch try_finish try_grow try_grow_to try_tail try_chop try_truncate try_write frame_count entry_count wiped cached short_buffers view overlay_of put_back stored small_codec small_sum small_decode small_runs small_load small_fresh importing stale refreshing marks after_commit short store_plan no_overlay image_bytes unchanged planned_runs commit_over store outside open_image closing open' copied spoil new_run pages_with ends_within grown_dirty draft_write draft_truncate ground file_ground file_of laid leaves lent_with right begin0 greedy_calls greedy
+unfolding count filled overwrite resize growMemory requiredPages normalized within merge insert add around remove flatRuns additions add_one remain plan put refill tabulate add_number_if span grown_numbers image_byte image_page push_run raw over_byte budget_bytes raised touch blank copy stretch patch finish grow grow_to chop tail truncated whole_page over_write written fresh look_up sized passing marked try_touch try_patch try_finish try_grow try_grow_to try_tail try_chop try_truncate try_write frame_count entry_count wiped cached short_buffers view overlay_of put_back stored small_codec small_sum small_decode small_runs small_load small_fresh importing stale refreshing marks after_commit short store_plan no_overlay image_bytes unchanged planned_runs commit_over store outside open_image closing open' copied spoil new_run pages_with ends_within grown_dirty draft_write draft_truncate ground file_ground file_of laid leaves lent_with right begin0 greedy_calls greedy
 greedy_shows h = (h (lends_self _ _) tt).1.buffers refl
 
 pub greedy_fails : Small greedy → ⊥
@@ -431,7 +431,7 @@ unfoldable narrow_calls : List Call
 narrow_calls = write 0 (9 ∷ []) ∷ []
 
 narrow_shows : Promised narrow 4 narrow_calls → ◌≡◌ {A = ℕ} 0 20
-unfolding count zeros overwrite resize growMemory requiredPages normalized within merge insert add around remove flatRuns additions add_one remain plan put refill tabulate add_number_if span grown_numbers image_byte image_page push_run raw over_byte budget_bytes raised touch blank copy stretch patch finish grow grow_to chop tail truncated whole_page over_write written fresh look_up sized passing marked try_touch try_patch try_finish try_grow try_grow_to try_tail try_chop try_truncate try_write frame_count entry_count wiped cached short_buffers view overlay_of put_back stored small_codec small_sum small_decode small_runs small_load small_fresh importing stale refreshing marks after_commit short store_plan no_overlay image_bytes unchanged planned_runs commit_over store outside open_image closing open' copied spoil new_run pages_with ends_within grown_dirty draft_write draft_truncate ground file_ground file_of laid leaves lent_with right narrow_calls narrow
+unfolding count filled overwrite resize growMemory requiredPages normalized within merge insert add around remove flatRuns additions add_one remain plan put refill tabulate add_number_if span grown_numbers image_byte image_page push_run raw over_byte budget_bytes raised touch blank copy stretch patch finish grow grow_to chop tail truncated whole_page over_write written fresh look_up sized passing marked try_touch try_patch try_finish try_grow try_grow_to try_tail try_chop try_truncate try_write frame_count entry_count wiped cached short_buffers view overlay_of put_back stored small_codec small_sum small_decode small_runs small_load small_fresh importing stale refreshing marks after_commit short store_plan no_overlay image_bytes unchanged planned_runs commit_over store outside open_image closing open' copied spoil new_run pages_with ends_within grown_dirty draft_write draft_truncate ground file_ground file_of laid leaves lent_with right narrow_calls narrow
 narrow_shows h = (h (lends_self _ _) tt).0.range refl (omega arith)
 
 pub narrow_fails : Small narrow → ⊥

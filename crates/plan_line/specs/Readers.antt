@@ -1,5 +1,5 @@
 -- What a line says, computed from its front: the definition that the readers are proved against.
-use Rattle.std.specs.Prelude.{List, ℕ}
+use Rattle.std.specs.Prelude.{List, ℕ, Option, Some, None}
 use Rattle.meta.specs.declared.ZeroExtent.{ZeroExtent}
 use Rattle.meta.specs.Runs.{run}
 use Rattle.decimal.specs.Text.{Got, got, wrong, then, from, skip, number}
@@ -16,6 +16,6 @@ unfoldable pub read_field : List ℕ → List ℕ → Got ℕ
 read_field key l = then (skip key l) (λ _ m. read_number m)
 
 -- what the code answers
-abbrev pub line_in : List ℕ → Line → Got ZeroExtent
-line_in t (Line.Run a b next) = got (run a b) (from t next)
-line_in t Line.Wrong = wrong
+abbrev pub line_in : List ℕ → Option Line → Got ZeroExtent
+line_in t (Some x) = got x.run (from t x.next)
+line_in t None = wrong

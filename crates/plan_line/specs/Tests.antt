@@ -1,8 +1,11 @@
 -- Laws of the tests of what was read, one for each turn of a loop.
-use Rattle.std.specs.Prelude.{◌≡◌, refl, List, [], ◌∷◌, ℕ, ◌+◌, ◌-◌, ◌≤◌, ◌<◌, length, get_or, take, drop, ltb}
+use Rattle.std.specs.Prelude.{◌≡◌, refl, List, [], ◌∷◌, ℕ, zero, suc, ◌+◌, ◌-◌, ◌/◌, ◌≤◌, ◌<◌, length, get_or, take, drop, ltb, eqb}
+use Rattle.std.specs.Bool.{MatchBool}
+use Rattle.std.specs.List.{IsAllAdjacentAnswer, AllWithin, HoldsAt, list_any}
+use Rattle.std.specs.Simd.{first_chunks}
 use Rattle.std.proofs.Math.Path.{sym, ap}
 use Rattle.std.proofs.Common.{◌∙◌, add-one, length-drop, drop_of_length-le, drop-cons, take_all}
-use mathlib.Core.Bool.{Bool, true, false, ◌&&◌}
+use mathlib.Core.Bool.{Bool, true, false, ◌&&◌, ◌||◌}
 use native.Mathlib.Omega.{arith}
 use borrow.Author.Tests.{lt-ltb, le-ltb, eq-eqb, ne_eqb}
 use Rattle.meta.specs.declared.ZeroExtent.{ZeroExtent}
@@ -89,9 +92,77 @@ module _ (l : List ℕ) (i : ℕ) (h : i < length l) where
   unfolding distinct
   distinct_no e = rw (drop-one l i h, e)
 
+-- each number and the next, as the library tests them
+module _ (a b : ℕ) (l : List ℕ) where
+  ascending_first : ltb a b ≡ false → ascending (a ∷ b ∷ l) ≡ false
+  unfolding ascending
+  ascending_first e = rw e
+
+  ascending_later : ascending (b ∷ l) ≡ false → ascending (a ∷ b ∷ l) ≡ false
+  unfolding ascending
+  ascending_later e = rw e (mathlib.Core.Bool.and-false (ltb a b))
+
+  ascending_more : ltb a b ≡ true → ascending (b ∷ l) ≡ true → ascending (a ∷ b ∷ l) ≡ true
+  unfolding ascending
+  ascending_more e f = rw (e, f)
+
+ascending_each : (l : List ℕ) → ((k : ℕ) → suc k < length l → ltb (get_or l k 0) (get_or l (suc k) 0) ≡ true) → ascending l ≡ true
+unfolding ascending
+ascending_each [] h = refl
+ascending_each (a ∷ []) h = refl
+ascending_each (a ∷ b ∷ l) h = ascending_more a b l (h 0 (omega arith)) (ascending_each (b ∷ l) (λ k lt. h (suc k) (omega arith)))
+
+ascending_some : (l : List ℕ) (k : ℕ) → suc k < length l → ltb (get_or l k 0) (get_or l (suc k) 0) ≡ false → ascending l ≡ false
+ascending_some [] k h e = absurd (omega arith)
+ascending_some (a ∷ []) k h e = absurd (omega arith)
+ascending_some (a ∷ b ∷ l) zero h e = ascending_first a b l e
+ascending_some (a ∷ b ∷ l) (suc k) h e = ascending_later a b l (ascending_some (b ∷ l) k (omega arith) e)
+
+pub ascending_answer : (l : List ℕ) (r : Bool) → IsAllAdjacentAnswer (λ x y b. b ≡ ltb x y) l r → r ≡ ascending l
+ascending_answer l true h = sym (ascending_each l (λ k lt. rw (sym (add-one k)) (sym (h k 0 (omega arith)))))
+ascending_answer l false h = sym (ascending_some l h.0 (omega arith) (rw (sym (add-one h.0)) (sym (h.2 0))))
+
+-- each two numbers, as the library cuts them
+pairs_count : (n : ℕ) (l : List ℕ) → length (first_chunks 2 n l) ≡ n
+pairs_count zero l = refl
+pairs_count (suc n) l = ap suc (pairs_count n (drop 2 l))
+
+pairs_each : (n : ℕ) (l : List ℕ) → n ≡ length l / 2
+    → ((k : ℕ) → k < n → get_or (get_or (first_chunks 2 n l) k []) 0 0 < get_or (get_or (first_chunks 2 n l) k []) 1 0) → non_empty (runs_of l) ≡ true
+unfolding non_empty
+pairs_each zero l e h = non_empty-short l (omega arith)
+pairs_each (suc n) [] e h = absurd (omega arith)
+pairs_each (suc n) (a ∷ []) e h = absurd (omega arith)
+pairs_each (suc n) (a ∷ b ∷ l) e h = rw (lt-ltb a b (h 0 (omega arith)), pairs_each n l (omega arith) (λ k lt. h (suc k) (omega arith)))
+
+pairs_some : (n : ℕ) (l : List ℕ) (k : ℕ) → n ≡ length l / 2 → k < n
+    → get_or (get_or (first_chunks 2 n l) k []) 1 0 ≤ get_or (get_or (first_chunks 2 n l) k []) 0 0 → non_empty (runs_of l) ≡ false
+unfolding non_empty
+pairs_some zero l k e h q = absurd (omega arith)
+pairs_some (suc n) [] k e h q = absurd (omega arith)
+pairs_some (suc n) (a ∷ []) k e h q = absurd (omega arith)
+pairs_some (suc n) (a ∷ b ∷ l) zero e h q = rw (le-ltb a b q)
+pairs_some (suc n) (a ∷ b ∷ l) (suc k) e h q = rw (pairs_some n l k (omega arith) (omega arith) q) (mathlib.Core.Bool.and-false (ltb a b))
+
+pub non_empty-answer : (l : List ℕ) (r : Bool)
+    → MatchBool r (AllWithin (λ x. get_or x 0 0 < get_or x 1 0) (first_chunks 2 (length l / 2) l) 0 (length (first_chunks 2 (length l / 2) l)))
+    ((k : ℕ) × (k < length (first_chunks 2 (length l / 2) l)) × HoldsAt (λ x. get_or x 1 0 ≤ get_or x 0 0) (first_chunks 2 (length l / 2) l) k)
+    → r ≡ non_empty (runs_of l)
+non_empty-answer l true h = sym (pairs_each (length l / 2) l refl (λ k lt. h k [] (omega arith) (omega (arith, pairs_count (length l / 2) l))))
+non_empty-answer l false h = sym (pairs_some (length l / 2) l h.0 refl (omega (arith, pairs_count (length l / 2) l, h.1)) (h.2 []))
+
 -- the rest of a list, as the code takes it
 pub rest_is : (l : List ℕ) (i : ℕ) → take (length l - i) (drop i l) ≡ drop i l
 rest_is l i = take_all (length l - i) (drop i l) (omega (arith, length-drop i l))
+
+-- as the library looks for a number
+pub member_is : (n : ℕ) (l : List ℕ) → list_any (λ y. eqb y n) l ≡ member n l
+unfolding member
+member_is n [] = refl
+member_is n (x ∷ l) = ap (λ (b : Bool). eqb x n || b) (member_is n l)
+
+pub rest_has : (n : ℕ) (l : List ℕ) (i : ℕ) → list_any (λ y. eqb y n) (take (length l - i) (drop i l)) ≡ member n (drop i l)
+rest_has n l i = rw (rest_is l i) (member_is n (drop i l))
 
 -- ## Runs as numbers
 

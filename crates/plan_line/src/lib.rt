@@ -3,69 +3,50 @@
 
 mod tests;
 
-ghost use Rattle.std.specs.Prelude.{◌≡◌, ◌≤◌, length};
+ghost use Rattle.std.specs.Prelude.{◌≡◌};
 ghost use Rattle.decimal.specs.Text.{from};
 ghost use Rattle.decimal.specs.Places.{numeral_in};
 ghost use Rattle.plan_line.specs.Readers.{read_number, read_run, read_field};
 
-use decimal::{Numeral, Place, number, skip};
+use decimal::{Numeral, number, skip};
+use meta::ZeroExtent;
 pub use tests::{are_distinct, is_ascending, none_is_empty};
 
-// A run was there, and the next line begins at `next`; or none was.
-#[derive(Clone, Copy)]
-pub enum Line {
-    Run { start: u64, end: u64, next: usize },
-    Wrong,
+// A run, and the place where the next line begins.
+#[derive(Clone, Copy, Debug, PartialEq, Eq)]
+pub struct Line {
+    pub run: ZeroExtent,
+    pub next: usize,
 }
 
 ghost use Rattle.plan_line.specs.Readers.{line_in};
 
-pub fn read_number(text: &[u8], at: usize) -> Numeral
-    requires { length text.now ≤ 65536 }
+pub fn read_number(text: &[u8], at: usize) -> Option<Numeral>
     ensures { numeral_in text.now result ≡ read_number (from text.now at) }
 {
-    let found = number(text, at);
-    let Numeral::Read { value, next } = found else {
-        return Numeral::Wrong;
-    };
-    let line_end = skip(text, next, b"\n");
-    let Place::At(after) = line_end else {
-        return Numeral::Wrong;
-    };
-    Numeral::Read { value, next: after }
+    let found = number(text, at)?;
+    let next = skip(text, found.next, b"\n")?;
+    Some(Numeral { next, ..found })
 }
 
-pub fn read_run(text: &[u8], at: usize) -> Line
-    requires { length text.now ≤ 65536 }
+pub fn read_run(text: &[u8], at: usize) -> Option<Line>
     ensures { line_in text.now result ≡ read_run (from text.now at) }
 {
-    let first = number(text, at);
-    let Numeral::Read {
-        value: start,
-        next: dash,
-    } = first
-    else {
-        return Line::Wrong;
+    let first = number(text, at)?;
+    let dash = skip(text, first.next, b"-")?;
+    let second = read_number(text, dash)?;
+    let run = ZeroExtent {
+        start: first.value,
+        end: second.value,
     };
-    let found = skip(text, dash, b"-");
-    let Place::At(after) = found else {
-        return Line::Wrong;
-    };
-    let second = read_number(text, after);
-    let Numeral::Read { value: end, next } = second else {
-        return Line::Wrong;
-    };
-    Line::Run { start, end, next }
+    let next = second.next;
+    Some(Line { run, next })
 }
 
 // A whole line with a number, which has to be there.
-pub fn read_field(text: &[u8], at: usize, key: &[u8]) -> Numeral
-    requires { length text.now ≤ 65536 }
+pub fn read_field(text: &[u8], at: usize, key: &[u8]) -> Option<Numeral>
     ensures { numeral_in text.now result ≡ read_field key.now (from text.now at) }
 {
-    let found = skip(text, at, key);
-    let Place::At(value) = found else {
-        return Numeral::Wrong;
-    };
+    let value = skip(text, at, key)?;
     read_number(text, value)
 }

@@ -1,18 +1,19 @@
 -- The text of an answer in a buffer.
-use Rattle.std.specs.Prelude.{◌≡◌, refl, cond, List, [], ◌∷◌, ◌++◌, ℕ, ◌+◌, ◌-◌, ◌*◌, ◌/◌, ◌≤◌, ◌<◌, length, take, drop, get_or, leb}
-use Rattle.std.proofs.Common.{ap, ◌∙◌, append_assoc, arith, length-append, length-drop, take_at, drop_at, le-leb}
+use Rattle.std.specs.Prelude.{◌≡◌, refl, Result, Ok, Err, cond, List, [], ◌∷◌, ◌++◌, map, ℕ, zero, suc, ◌+◌, ◌-◌, ◌*◌, ◌/◌, ◌≤◌, ◌<◌, length, take, drop, get_or, leb}
+use Rattle.std.proofs.Common.{ap, ◌∙◌, add-one, drop-cons, drop_of_length-le, append_assoc, arith, length-append, length-drop, take_at, drop_at, le-leb}
 use Rattle.std.proofs.lemmas.Bool.{lt-leb}
+use Rattle.std.specs.Simd.{first_chunks}
 use Rattle.meta.specs.declared.ZeroExtent.{ZeroExtent}
 use Rattle.meta.specs.Runs.{run, runs_of}
 use Rattle.decimal.specs.Decimal.{decimal, decimal-length}
 use Rattle.decimal.specs.Write.{Written, written, write, write_is, next_write, write_then, write_none}
-use Rattle.plan_report.specs.declared.Answer.{Answer}
+use Rattle.plan_report.specs.declared.PlanError.{PlanError}
 use Rattle.plan_line.specs.Values.{ascii, number_value, run_value, lines}
 use Rattle.plan_report.specs.Answers.{report}
 use Rattle.plan_line.specs.Tests.{drop-two}
 
 -- its length, and the buffer with it at the front, where there is room for the longest answer with as many runs
-unfoldable pub printed : Answer → List ZeroExtent → List ℕ → Written
+unfoldable pub printed : Result ℕ PlanError → List ZeroExtent → List ℕ → Written
 printed answer runs out = cond (leb (72 + 49 * length runs) (length out)) (write 0 (report answer runs) out) (written 0 out)
 
 -- ## How long
@@ -30,9 +31,9 @@ lines-length : (runs : List ZeroExtent) → length (lines (ascii "extent=") run_
 lines-length [] = omega arith
 lines-length (x ∷ runs) = omega (arith, length-append (run_value x) (lines (ascii "extent=") run_value runs), run_length x, lines-length runs)
 
-pub report-length : (answer : Answer) (runs : List ZeroExtent) → length (report answer runs) ≤ 72 + 49 * length runs
+pub report-length : (answer : Result ℕ PlanError) (runs : List ZeroExtent) → length (report answer runs) ≤ 72 + 49 * length runs
 unfolding report
-report-length (Answer.Accepted pages) runs =
+report-length (Ok pages) runs =
     omega (
       arith,
       length-append (number_value pages) (ascii "extents=" ++ (number_value (length runs) ++ lines (ascii "extent=") run_value runs)),
@@ -41,8 +42,14 @@ report-length (Answer.Accepted pages) runs =
       value-length (length runs),
       lines-length runs,
     )
-report-length Answer.Extents runs = omega arith
-report-length Answer.Malformed runs = omega arith
+report-length (Err PlanError.Extents) runs = omega arith
+report-length (Err PlanError.Malformed) runs = omega arith
+
+-- without a plan no runs are told
+pub error_report : (error : PlanError) (runs : List ZeroExtent) → report (Err error) [] ≡ report (Err error) runs
+unfolding report
+error_report PlanError.Extents runs = refl
+error_report PlanError.Malformed runs = refl
 
 pub runs_half : (l : List ℕ) → length (runs_of l) ≡ length l / 2
 runs_half [] = refl
@@ -51,7 +58,7 @@ runs_half (a ∷ b ∷ l) = omega (arith, runs_half l)
 
 -- ## What is in the buffer
 
-module _ (answer : Answer) (runs : List ZeroExtent) (out : List ℕ) where
+module _ (answer : Result ℕ PlanError) (runs : List ZeroExtent) (out : List ℕ) where
   pub printed_room : 72 + 49 * length runs ≤ length out → printed answer runs out ≡ write 0 (report answer runs) out
   unfolding printed
   printed_room h = rw (le-leb _ _ h)
@@ -86,6 +93,32 @@ runs_go l i at out n o lo h e =
     rw (z, drop-two l i lo h)
     (write_then at (ascii "extent=" ++ run_value x) out n o e w.next w.bytes more refl
     ∙ ap (λ (t : List ℕ). write at t out) (append_assoc (ascii "extent=") (run_value x) more))
+
+-- the runs as pairs of numbers, as the library cuts them
+abbrev pub pair : List ℕ → ZeroExtent
+pair x = run (get_or x 0 0) (get_or x 1 0)
+
+pub pairs_are : (n : ℕ) (l : List ℕ) → n ≡ length l / 2 → map pair (first_chunks 2 n l) ≡ runs_of l
+pairs_are zero [] e = refl
+pairs_are zero (a ∷ []) e = refl
+pairs_are zero (a ∷ b ∷ l) e = absurd (omega arith)
+pairs_are (suc n) [] e = absurd (omega arith)
+pairs_are (suc n) (a ∷ []) e = absurd (omega arith)
+pairs_are (suc n) (a ∷ b ∷ l) e = ap (λ (r : List ZeroExtent). run a b ∷ r) (pairs_are n l (omega arith))
+
+pub pairs_go : (ps : List (List ℕ)) (i at : ℕ) (out : List ℕ) (n : ℕ) (o : List ℕ) → i < length ps
+    → written n o ≡ write at (ascii "extent=" ++ run_value (pair (get_or ps i []))) out
+    → write n (lines (ascii "extent=") run_value (map pair (drop (i + 1) ps))) o ≡ write at (lines (ascii "extent=") run_value (map pair (drop i ps))) out
+pairs_go ps i at out n o h e =
+    let x : ZeroExtent = pair (get_or ps i []) in
+    let more : List ℕ = lines (ascii "extent=") run_value (map pair (drop (suc i) ps)) in
+    let w : Written = write n more o in
+    rw (add-one i, drop-cons ps i [] h)
+    (write_then at (ascii "extent=" ++ run_value x) out n o e w.next w.bytes more refl
+    ∙ ap (λ (t : List ℕ). write at t out) (append_assoc (ascii "extent=") (run_value x) more))
+
+pub pairs_end : (ps : List (List ℕ)) (i at : ℕ) (out : List ℕ) → length ps ≤ i → write at (lines (ascii "extent=") run_value (map pair (drop i ps))) out ≡ written at out
+pairs_end ps i at out h = rw (drop_of_length-le ps {i = i} h) (write_none at out)
 
 no_runs : (l : List ℕ) → length l ≤ 1 → runs_of l ≡ []
 no_runs [] h = refl

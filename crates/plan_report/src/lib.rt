@@ -1,16 +1,15 @@
 // The answer of zeroplan as text.
 #![tactic(auto)]
 
-ghost use Rattle.std.specs.Prelude.{◌≡◌, ◌++◌, ◌+◌, ◌*◌, ◌/◌, ◌≤◌, length};
+ghost use Rattle.std.specs.Prelude.{◌≡◌, Ok, Err, [], ◌++◌, ◌+◌, ◌*◌, ◌/◌, ◌≤◌, length};
 ghost use Rattle.decimal.specs.Write.{written, write};
 ghost use Rattle.meta.specs.Runs.{run, runs_of};
 
 use decimal::{put, put_number};
 
-// An accepted plan with its page count; 31; or a text that is none.
-#[derive(Clone, Copy)]
-pub enum Answer {
-    Accepted(u64),
+// Why there is no plan: it has too many runs, which is 31; or the text says nothing.
+#[derive(Debug, Clone, Copy, PartialEq, Eq)]
+pub enum PlanError {
     Extents,
     Malformed,
 }
@@ -18,7 +17,6 @@ pub enum Answer {
 ghost use Rattle.plan_line.specs.Values.{ascii, number_value, run_value, lines};
 ghost use Rattle.plan_report.specs.Answers.{report};
 ghost use Rattle.plan_report.specs.Print.{printed};
-ghost use Rattle.plan_report.specs.declared.Answer.{Answer};
 
 // The longest run's line takes 49 bytes, the lines before the runs 72.
 const LONGEST_RUN: usize = 49;
@@ -26,6 +24,7 @@ const LONGEST_RUN: usize = 49;
 const LONGEST_HEAD: usize = 72;
 
 // A key, a number of at most 20 digits, and the end of the line.
+// Not by Display: a lent buffer with room can't fail here, and std's `write!` into one may (decimal's put_number).
 fn put_value(out: &mut [u8], at: usize, key: &[u8], n: u64) -> usize
     requires { at + length key.now + 21 ≤ length out.old }
     ensures { written result out.new ≡ write at (key.now ++ number_value n) out.old }
@@ -50,17 +49,16 @@ fn put_runs(out: &mut [u8], at: usize, runs: &[u64]) -> usize
     ensures { written result out.new ≡ write at (lines (ascii "extent=") run_value (runs_of runs.now)) out.old }
 {
     let mut next = at;
-    let mut i: usize = 1;
-    while i < runs.len() {
-        next = put_run(out, next, runs[i - 1], runs[i]);
-        i += 2;
+    let (pairs, _) = runs.as_chunks::<2>();
+    for [start, end] in pairs {
+        next = put_run(out, next, *start, *end);
     }
     next
 }
 
 fn put_plan(out: &mut [u8], pages: u64, runs: &[u64]) -> usize
     requires { 72 + 49 * (length runs.now / 2) ≤ length out.old }
-    ensures { written result out.new ≡ write 0 (report (Answer.Accepted pages) (runs_of runs.now)) out.old }
+    ensures { written result out.new ≡ write 0 (report (Ok pages) (runs_of runs.now)) out.old }
 {
     let count = (runs.len() / 2) as u64;
     let first = put(out, 0, b"result=accepted\n");
@@ -69,9 +67,20 @@ fn put_plan(out: &mut [u8], pages: u64, runs: &[u64]) -> usize
     put_runs(out, third, runs)
 }
 
-// Puts the text of an answer at the front of `out`, and answers its length; the bytes behind it stay. Where `out` has no
-// room for the longest answer with as many runs, nothing is put there, and the answer is 0.
-pub fn print(out: &mut [u8], answer: Answer, runs: &[u64]) -> usize
+fn put_error(out: &mut [u8], error: PlanError) -> usize
+    requires { 72 ≤ length out.old }
+    ensures { written result out.new ≡ write 0 (report (Err error) []) out.old }
+{
+    match error {
+        PlanError::Extents => put(out, 0, b"result=extents\n"),
+        PlanError::Malformed => put(out, 0, b"result=malformed\n"),
+    }
+}
+
+// Puts the text of an answer at the front of `out`, and answers its length; the bytes behind it stay. An accepted plan has
+// its page count. Where `out` has no room for the longest answer with as many runs, nothing is put there, and the answer
+// is 0.
+pub fn print(out: &mut [u8], answer: Result<u64, PlanError>, runs: &[u64]) -> usize
     ensures { written result out.new ≡ printed answer (runs_of runs.now) out.old }
 {
     if out.len() < LONGEST_HEAD {
@@ -81,8 +90,7 @@ pub fn print(out: &mut [u8], answer: Answer, runs: &[u64]) -> usize
         return 0;
     }
     match answer {
-        Answer::Accepted(pages) => put_plan(out, pages, runs),
-        Answer::Extents => put(out, 0, b"result=extents\n"),
-        Answer::Malformed => put(out, 0, b"result=malformed\n"),
+        Ok(pages) => put_plan(out, pages, runs),
+        Err(error) => put_error(out, error),
     }
 }

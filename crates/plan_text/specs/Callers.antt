@@ -1,6 +1,6 @@
 -- What a caller of the parser knows from its contract.
 use Rattle.std.proofs.Math.Path.{◌≡◌, ap}
-use Rattle.std.specs.Prelude.{List, ℕ, ◌*◌, ◌≤◌, take}
+use Rattle.std.specs.Prelude.{None, List, ℕ, ◌*◌, ◌≤◌, take}
 use Rattle.std.proofs.Common.{sym, ◌∙◌, arith}
 use Rattle.std.proofs.Math.Logic.{⊎_elim}
 use Rattle.std.proofs.Math.ListN.{length}
@@ -8,7 +8,7 @@ use Rattle.std.proofs.lemmas.List.Edits.{sets}
 use Rattle.meta.specs.Runs.{numbers_of}
 use Rattle.plan_text.specs.declared.Parsed.{Parsed}
 use Rattle.plan_text.specs.Grammar.{Input, WellFormed}
-use Rattle.plan_text.specs.Parse.{Reading, accepted, parse}
+use Rattle.plan_text.specs.Parse.{Reading, parsed_as, same_parsed, accepted, parse}
 use Rattle.plan_text.specs.Means.{accepted_is_well_formed, malformed_or_accepted, malformed_is_not_well_formed}
 use Rattle.plan_text.specs.Fill.{Outcome, outcome, filled_by}
 use Rattle.plan_line.specs.Tests.{length-numbers}
@@ -32,25 +32,26 @@ numbers_front xs l out n z h e = ap (take n) e ∙ ap (λ (k : ℕ). take k (set
 
 module _ (t e r d e' r' d' : List ℕ) where
   pub accepted_says : (old new a b c : ℕ) → length e ≡ 2048 → length r ≡ 2048 → length d ≡ 1024
-      → outcome (Parsed.Accepted old new a b c) e' r' d' ≡ filled_by (parse t) e r d → Says t old new a b c e' r' d'
+      → outcome (parsed_as old new a b c) e' r' d' ≡ filled_by (parse t) e r d → Says t old new a b c e' r' d'
   unfolding filled_by accepted
   accepted_says old new a b c E R D q = ⊎_elim
       (λ m.
-      let p : Parsed.Accepted old new a b c ≡ (parse t).parsed = ap (λ (o : Outcome). o.parsed) q in
+      let p : parsed_as old new a b c ≡ (parse t).parsed = ap (λ (o : Outcome). o.parsed) q in
       let z : ◌≡◌ {A = ℕ} 0 1 = cc in
       absurd (omega arith))
       (λ (i, p).
-      let s : outcome (Parsed.Accepted old new a b c) e' r' d' ≡ filled_by (accepted i) e r d = q ∙ ap (λ (x : Reading). filled_by x e r d) p in
-      let h : Parsed.Accepted old new a b c ≡ Parsed.Accepted i.old i.new (length i.extents) (length i.records) (length i.dirty) = ap (λ (o : Outcome). o.parsed) s in
+      let s : outcome (parsed_as old new a b c) e' r' d' ≡ filled_by (accepted i) e r d = q ∙ ap (λ (x : Reading). filled_by x e r d) p in
+      let h : parsed_as old new a b c ≡ parsed_as i.old i.new (length i.extents) (length i.records) (length i.dirty) = ap (λ (o : Outcome). o.parsed) s in
       let w : WellFormed t i = accepted_is_well_formed t i p in
-      let A : a ≡ length i.extents = cc in
-      let B : b ≡ length i.records = cc in
-      let C : c ≡ length i.dirty = cc in
+      let k = same_parsed _ _ h in
+      let A : a ≡ length i.extents = ap (λ (x : Parsed). x.extents) k in
+      let B : b ≡ length i.records = ap (λ (x : Parsed). x.recorded) k in
+      let C : c ≡ length i.dirty = ap (λ (x : Parsed). x.dirty) k in
       record {
         input = i;
         well_formed = w;
-        old_is = cc;
-        new_is = cc;
+        old_is = ap (λ (x : Parsed). x.old_size) k;
+        new_is = ap (λ (x : Parsed). x.new_size) k;
         extents_count = A;
         records_count = B;
         dirty_count = C;
@@ -62,6 +63,6 @@ module _ (t e r d e' r' d' : List ℕ) where
       })
       (malformed_or_accepted t)
 
-  pub malformed_says : outcome Parsed.Malformed e' r' d' ≡ filled_by (parse t) e r d → (i : Input) → WellFormed t i → ⊥
+  pub malformed_says : outcome None e' r' d' ≡ filled_by (parse t) e r d → (i : Input) → WellFormed t i → ⊥
   unfolding filled_by
   malformed_says q = malformed_is_not_well_formed t (sym (ap (λ (o : Outcome). o.parsed) q))

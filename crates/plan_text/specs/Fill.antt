@@ -1,5 +1,5 @@
 -- What the code's answers say, and what the lent buffers hold: the numbers that were read from the first place on, and behind them what was there.
-use Rattle.std.specs.Prelude.{List, ℕ, ◌+◌, ◌*◌, length}
+use Rattle.std.specs.Prelude.{Option, Some, None, List, ℕ, ◌+◌, ◌*◌, length}
 use Rattle.std.proofs.lemmas.List.Edits.{sets}
 use Rattle.meta.specs.declared.ZeroExtent.{ZeroExtent}
 use Rattle.meta.specs.Runs.{numbers_of}
@@ -15,9 +15,9 @@ pub data Filled : Type 0 where
   filled : ℕ → List ℕ → List ℕ → Filled
   torn : List ℕ → Filled
 
-abbrev pub lines_in : List ℕ → Lines → List ℕ → Filled
-lines_in t (Lines.Ended n next) out = filled n (from t next) out
-lines_in t Lines.Broken out = torn out
+abbrev pub lines_in : List ℕ → Option Lines → List ℕ → Filled
+lines_in t (Some lines) out = filled lines.count (from t lines.next) out
+lines_in t None out = torn out
 
 -- n lines are in the buffer already
 abbrev pub fill_runs : ℕ → Section ZeroExtent → List ℕ → Filled
@@ -31,12 +31,12 @@ fill_pages n (broken xs) out = torn (sets out n xs)
 -- ## The whole text
 
 pub record Outcome : Type 0 where
-  pub parsed : Parsed
+  pub parsed : Option Parsed
   pub extents : List ℕ
   pub records : List ℕ
   pub dirty : List ℕ
 
-abbrev pub outcome : Parsed → List ℕ → List ℕ → List ℕ → Outcome
+abbrev pub outcome : Option Parsed → List ℕ → List ℕ → List ℕ → Outcome
 outcome p e r d = record { parsed = p; extents = e; records = r; dirty = d }
 
 -- the buffers' first numbers are those that were read

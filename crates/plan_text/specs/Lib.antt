@@ -3,6 +3,7 @@ pub mod Parse
 pub mod Laws
 pub mod Means
 pub mod Fill
+pub mod Entries
 pub mod Turns
 pub mod Tested
 pub mod Whole

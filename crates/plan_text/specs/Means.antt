@@ -1,14 +1,13 @@
 -- The parser's definition and the grammar agree: what is accepted is well formed and means this, and what is well formed is accepted.
-use Rattle.std.specs.Prelude.{◌≡◌, refl, Bool, true, false, cond, List, [], ◌∷◌, ◌++◌, ◌⊎◌, ℕ, ◌≤◌, length, get_or, take, leb}
+use Rattle.std.specs.Prelude.{◌≡◌, refl, None, Bool, true, false, cond, List, [], ◌∷◌, ◌++◌, ◌⊎◌, ℕ, ◌≤◌, length, get_or, take, leb}
 use Rattle.std.proofs.Common.{sym, ap, subst, ◌∙◌, append_assoc, append-nil, inl, inr, ⊎_elim, arith, length-append, take_at, leb-true, le-leb}
 use Rattle.meta.specs.declared.ZeroExtent.{ZeroExtent}
 use Rattle.meta.specs.Runs.{normalized}
 use Rattle.decimal.specs.Text.{Got, got, wrong, from}
 use Rattle.decimal.specs.Read.{skip_other}
-use Rattle.plan_text.specs.declared.Parsed.{Parsed}
 use Rattle.plan_text.specs.Grammar.{Input, spell, Fits, RunFits, Valid, WellFormed}
 use Rattle.plan_line.specs.Values.{ascii, number_value, run_value, lines, non_empty, distinct}
-use Rattle.plan_text.specs.Parse.{Section, ended, broken, section, tested, Reading, refused, accepted, on_section, on_number, parse_end, parse_dirty, parse_records, parse_extents, parse_sizes, parse}
+use Rattle.plan_text.specs.Parse.{same_parsed, Section, ended, broken, section, tested, Reading, refused, accepted, on_section, on_number, parse_end, parse_dirty, parse_records, parse_extents, parse_sizes, parse}
 use Rattle.plan_line.specs.Readers.{read_number, read_run, read_field}
 use Rattle.plan_text.specs.Laws.{never_ended, number_line_means, number_line_spelled, run_line_means, run_line_spelled, field_means, field_spelled, section_means, section_spelled}
 
@@ -24,21 +23,21 @@ spell_behind i z = simp append_assoc
 
 -- ## What is accepted is well formed
 
-never_accepted {ℓ} : {X : Type ℓ} (x : Reading) (i : Input) → x.parsed ≡ Parsed.Malformed → x ≡ accepted i → X
+never_accepted {ℓ} : {X : Type ℓ} (x : Reading) (i : Input) → x.parsed ≡ None → x ≡ accepted i → X
 unfolding accepted
 never_accepted x i m e = let p = ap (λ (y : Reading). y.parsed) e in let z : ◌≡◌ {A = ℕ} 0 1 = cc in absurd (omega arith)
 
-cond_accepted : (b : Bool) (x y : Reading) (i : Input) → y.parsed ≡ Parsed.Malformed → cond b x y ≡ accepted i → (b ≡ true) × (x ≡ accepted i)
+cond_accepted : (b : Bool) (x y : Reading) (i : Input) → y.parsed ≡ None → cond b x y ≡ accepted i → (b ≡ true) × (x ≡ accepted i)
 cond_accepted true x y i m e = (refl, e)
 cond_accepted false x y i m e = never_accepted y i m e
 
-number_accepted : (g : Got ℕ) (f : ℕ → List ℕ → Reading) (y : Reading) (i : Input) → y.parsed ≡ Parsed.Malformed → on_number g f y ≡ accepted i
+number_accepted : (g : Got ℕ) (f : ℕ → List ℕ → Reading) (y : Reading) (i : Input) → y.parsed ≡ None → on_number g f y ≡ accepted i
     → (n : ℕ) × (r : List ℕ) × (g ≡ got n r) × (f n r ≡ accepted i)
 number_accepted (got n r) f y i m e = (n, r, refl, e)
 number_accepted wrong f y i m e = never_accepted y i m e
 
 section_accepted : {A : Type 0} (s : Section A) (f : List A → List ℕ → Reading) (g : List A → Reading) (i : Input)
-    → ((xs : List A) → (g xs).parsed ≡ Parsed.Malformed) → on_section s f g ≡ accepted i
+    → ((xs : List A) → (g xs).parsed ≡ None) → on_section s f g ≡ accepted i
     → (xs : List A) × (r : List ℕ) × (s ≡ ended xs r) × (f xs r ≡ accepted i)
 section_accepted (ended xs r) f g i m e = (xs, r, refl, e)
 section_accepted (broken xs) f g i m e = never_accepted (g xs) i (m xs) e
@@ -54,10 +53,8 @@ tested_means ok (broken ys) xs r e = never_ended e
 accepted_same : (i j : Input) → accepted i ≡ accepted j → i ≡ j
 unfolding accepted
 accepted_same i j e =
-    let p = ap (λ (y : Reading). y.parsed) e in
-    let a : i.old ≡ j.old = cc in
-    let b : i.new ≡ j.new = cc in
-    λ k. input (a k) (b k) (e k).extents (e k).records (e k).dirty
+    let p = same_parsed _ _ (ap (λ (y : Reading). y.parsed) e) in
+    λ k. input (p k).old_size (p k).new_size (e k).extents (e k).records (e k).dirty
 
 end_means : (i j : Input) (z : List ℕ) → parse_end i z ≡ accepted j → (length z ≤ 1) × (i ≡ j)
 unfolding parse_end
@@ -190,7 +187,7 @@ well_formed_is_accepted t i w = rw (le-leb (length t) 65536 w.size)
 -- ## Every text is the one or the other
 
 abbrev Decided : Reading → Type 0
-Decided x = (x.parsed ≡ Parsed.Malformed) ⊎ ((i : Input) × (x ≡ accepted i))
+Decided x = (x.parsed ≡ None) ⊎ ((i : Input) × (x ≡ accepted i))
 
 cond_decided : (b : Bool) (x y : Reading) → Decided x → Decided y → Decided (cond b x y)
 cond_decided true x y p q = p
@@ -205,7 +202,7 @@ section_decided : {A : Type 0} (s : Section A) (f : List A → List ℕ → Read
 section_decided (ended xs r) f g p q = p xs r
 section_decided (broken xs) f g p q = q xs
 
-pub malformed_or_accepted : (t : List ℕ) → ((parse t).parsed ≡ Parsed.Malformed) ⊎ ((i : Input) × (parse t ≡ accepted i))
+pub malformed_or_accepted : (t : List ℕ) → ((parse t).parsed ≡ None) ⊎ ((i : Input) × (parse t ≡ accepted i))
 unfolding parse parse_sizes parse_extents parse_records parse_dirty parse_end
 malformed_or_accepted t = cond_decided (leb (length t) 65536) _ _
     (number_decided (read_field (ascii "old_size=") (from t 0)) _ _ (λ old l. number_decided (read_field (ascii "new_size=") l) _ _
@@ -219,7 +216,7 @@ malformed_or_accepted t = cond_decided (leb (length t) 65536) _ _
     (inl refl)) (inl refl))
     (inl refl)
 
-pub malformed_is_not_well_formed : (t : List ℕ) → (parse t).parsed ≡ Parsed.Malformed → (i : Input) → WellFormed t i → ⊥
+pub malformed_is_not_well_formed : (t : List ℕ) → (parse t).parsed ≡ None → (i : Input) → WellFormed t i → ⊥
 malformed_is_not_well_formed t m i w = never_accepted (parse t) i m (well_formed_is_accepted t i w)
 
 -- a text means one thing

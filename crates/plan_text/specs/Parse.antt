@@ -1,5 +1,5 @@
 -- What a text says, computed from its front: the definition that the parser is proved against.
-use Rattle.std.specs.Prelude.{Bool, cond, List, [], ◌∷◌, ℕ, zero, suc, length, leb}
+use Rattle.std.specs.Prelude.{◌≡◌, Option, Some, None, Bool, cond, List, [], ◌∷◌, ℕ, zero, suc, length, leb}
 use Rattle.meta.specs.declared.ZeroExtent.{ZeroExtent}
 use Rattle.meta.specs.Runs.{normalized}
 use Rattle.decimal.specs.Text.{Got, got, wrong, from, skip}
@@ -39,19 +39,26 @@ tested ok (broken xs) = broken xs
 
 -- ## The whole text
 
+-- the code's answer to a text that says something
+abbrev pub parsed_as : ℕ → ℕ → ℕ → ℕ → ℕ → Option Parsed
+parsed_as old new e r d = Some (record { old_size = old; new_size = new; extents = e; recorded = r; dirty = d })
+
+pub same_parsed : (p q : Parsed) → Some p ≡ Some q → p ≡ q
+same_parsed p q e = cc
+
 -- the answer, and what was read of each kind
 pub record Reading : Type 0 where
-  pub parsed : Parsed
+  pub parsed : Option Parsed
   pub extents : List ZeroExtent
   pub records : List ZeroExtent
   pub dirty : List ℕ
 
 abbrev pub refused : List ZeroExtent → List ZeroExtent → List ℕ → Reading
-refused es rs ds = record { parsed = Parsed.Malformed; extents = es; records = rs; dirty = ds }
+refused es rs ds = record { parsed = None; extents = es; records = rs; dirty = ds }
 
 unfoldable pub accepted : Input → Reading
 accepted i = record {
-  parsed = Parsed.Accepted i.old i.new (length i.extents) (length i.records) (length i.dirty);
+  parsed = parsed_as i.old i.new (length i.extents) (length i.records) (length i.dirty);
   extents = i.extents;
   records = i.records;
   dirty = i.dirty;

@@ -40,24 +40,36 @@ module _ {A : Type 0} {fill : Section A → List ℕ → Filled} {flat : List A 
     pub used_fits : size n ≤ length out
     used_fits = let (xs, a, b, c) = ended_means s e in subst (λ (k : ℕ). size k ≤ length out) (sym b) (short xs r a)
 
-    module _ (ok : List A → Bool) (test : List ℕ → Bool) (agree : (xs : List A) → test (flat xs) ≡ ok xs) where
-      same_test : (xs : List A) → s ≡ ended xs r → n ≡ length xs → o ≡ sets out 0 (flat xs) → test (take (size n) o) ≡ ok xs
-      same_test xs a b c =
-          let h : length (flat xs) ≤ length out = omega (arith, K.long xs, short xs r a) in
-          let z : size n ≡ length (flat xs) = ap size b ∙ sym (K.long xs) in
-          ap (λ (l : List ℕ). test (take (size n) l)) c ∙ ap (λ (k : ℕ). test (take k (sets out 0 (flat xs)))) z ∙ ap test (front (flat xs) out h) ∙ agree xs
+    -- the buffer's first numbers are those of the lines
+    front_is : (xs : List A) → s ≡ ended xs r → n ≡ length xs → o ≡ sets out 0 (flat xs) → take (size n) o ≡ flat xs
+    front_is xs a b c =
+        let h : length (flat xs) ≤ length out = omega (arith, K.long xs, short xs r a) in
+        let z : size n ≡ length (flat xs) = ap size b ∙ sym (K.long xs) in
+        ap (take (size n)) c ∙ ap (λ (k : ℕ). take k (sets out 0 (flat xs))) z ∙ front (flat xs) out h
 
-      pub test_passed : test (take (size n) o) ≡ true → filled n r o ≡ fill (tested ok s) out
-      test_passed t =
-          let (xs, a, b, c) = ended_means s e in
-          let p : ok xs ≡ true = sym (same_test xs a b c) ∙ t in
+    -- a test of these numbers answered `b`
+    module _ (ok : List A → Bool) (b : Bool) (says : (xs : List A) → take (size n) o ≡ flat xs → b ≡ ok xs) where
+      pub answer_passed : b ≡ true → filled n r o ≡ fill (tested ok s) out
+      answer_passed t =
+          let (xs, a, k, c) = ended_means s e in
+          let p : ok xs ≡ true = sym (says xs (front_is xs a k c)) ∙ t in
           e ∙ rw (a, p)
 
-      pub test_failed : test (take (size n) o) ≡ false → torn o ≡ fill (tested ok s) out
-      test_failed t =
-          let (xs, a, b, c) = ended_means s e in
-          let p : ok xs ≡ false = sym (same_test xs a b c) ∙ t in
+      pub answer_failed : b ≡ false → torn o ≡ fill (tested ok s) out
+      answer_failed t =
+          let (xs, a, k, c) = ended_means s e in
+          let p : ok xs ≡ false = sym (says xs (front_is xs a k c)) ∙ t in
           rw (a, p) (ap torn c ∙ sym (K.on_broken xs out))
+
+    module _ (ok : List A → Bool) (test : List ℕ → Bool) (agree : (xs : List A) → test (flat xs) ≡ ok xs) where
+      same_test : (xs : List A) → s ≡ ended xs r → n ≡ length xs → o ≡ sets out 0 (flat xs) → test (take (size n) o) ≡ ok xs
+      same_test xs a b c = ap test (front_is xs a b c) ∙ agree xs
+
+      pub test_passed : test (take (size n) o) ≡ true → filled n r o ≡ fill (tested ok s) out
+      test_passed t = answer_passed ok (test (take (size n) o)) (λ xs z. ap test z ∙ agree xs) t
+
+      pub test_failed : test (take (size n) o) ≡ false → torn o ≡ fill (tested ok s) out
+      test_failed t = answer_failed ok (test (take (size n) o)) (λ xs z. ap test z ∙ agree xs) t
 
 -- the lines that were read before one was wrong
 pub broken_means : {A : Type 0} {fill : Section A → List ℕ → Filled} {flat : List A → List ℕ} {size : ℕ → ℕ} (K : Kind fill flat size)

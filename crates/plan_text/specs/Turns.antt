@@ -34,16 +34,16 @@ pages_more x (broken xs) n out = λ i. torn (sets (set out n x) (add-one n i) xs
 -- ## A section, line by line
 
 module _ {A : Type 0} (value : List ℕ → Got A) (key l : List ℕ) where
-  section_full : (k : ℕ) (m : List ℕ) (u : Unit {0}) → k ≡ 0 → skip key l ≡ got u m → section value key k l ≡ broken []
+  pub section_full : (k : ℕ) (m : List ℕ) (u : Unit {0}) → k ≡ 0 → skip key l ≡ got u m → section value key k l ≡ broken []
   unfolding section
   section_full k m u z e = rw (z, e)
 
-  section_bad : (k : ℕ) (m : List ℕ) (u : Unit {0}) → skip key l ≡ got u m → value m ≡ wrong → section value key k l ≡ broken []
+  pub section_bad : (k : ℕ) (m : List ℕ) (u : Unit {0}) → skip key l ≡ got u m → value m ≡ wrong → section value key k l ≡ broken []
   unfolding section
   section_bad zero m u e f = rw e
   section_bad (suc k) m u e f = rw (e, f)
 
-  section_more : (k j : ℕ) (m : List ℕ) (u : Unit {0}) (x : A) (r : List ℕ) → k ≡ suc j → skip key l ≡ got u m → value m ≡ got x r
+  pub section_more : (k j : ℕ) (m : List ℕ) (u : Unit {0}) (x : A) (r : List ℕ) → k ≡ suc j → skip key l ≡ got u m → value m ≡ got x r
       → section value key k l ≡ more x (section value key j r)
   unfolding section
   section_more k j m u x r z e f = rw (z, e, f)

@@ -3,26 +3,22 @@
 
 mod section;
 
-ghost use Rattle.std.specs.Prelude.{◌≡◌, [], ◌≤◌, length};
+ghost use Rattle.std.specs.Prelude.{◌≡◌};
 ghost use Rattle.decimal.specs.Text.{from};
 
-use crate::section::{Lines, read_dirty, read_extents, read_records};
-use decimal::Numeral;
-use meta::Superblock;
-use plan_line::read_field;
-pub use plan_report::{Answer, print};
+use crate::section::read_section;
+use meta::{Superblock, ZeroExtent};
+use plan_line::{are_distinct, is_ascending, none_is_empty, read_field};
+pub use plan_report::{PlanError, print};
 
-// Counts of the lines of each kind, and the two sizes; or the text says nothing.
-#[derive(Clone, Copy)]
-pub enum Parsed {
-    Accepted {
-        old_size: u64,
-        new_size: u64,
-        extents: usize,
-        recorded: usize,
-        dirty: usize,
-    },
-    Malformed,
+// The two sizes, and how many lines there are of each kind.
+#[derive(Clone, Copy, Debug, PartialEq, Eq)]
+pub struct Parsed {
+    pub old_size: u64,
+    pub new_size: u64,
+    pub extents: usize,
+    pub recorded: usize,
+    pub dirty: usize,
 }
 
 ghost use Rattle.plan_text.specs.Parse.{parse_extents};
@@ -45,32 +41,29 @@ fn parse_lists(
     extents: &mut [u64; MOST_RUN_NUMBERS],
     recorded: &mut [u64; MOST_RUN_NUMBERS],
     dirty: &mut [u64; MOST_PAGES],
-) -> Parsed
-    requires { length text.now ≤ 65536 }
+) -> Option<Parsed>
     ensures { outcome result extents.new recorded.new dirty.new ≡ filled_by (parse_extents old new (from text.now at)) extents.old recorded.old dirty.old }
 {
-    let first = read_extents(text, at, extents);
-    let Lines::Ended { count: e, next } = first else {
-        return Parsed::Malformed;
-    };
-    let second = read_records(text, next, recorded);
-    let Lines::Ended { count: r, next } = second else {
-        return Parsed::Malformed;
-    };
-    let third = read_dirty(text, next, dirty);
-    let Lines::Ended { count: d, next } = third else {
-        return Parsed::Malformed;
-    };
-    if next < text.len() {
-        return Parsed::Malformed;
+    // Closures, since a function of another crate passed by its name gets no proof.
+    let first = read_section::<ZeroExtent, _>(text, at, b"extent=", extents, |x| is_ascending(x))?;
+    let second = read_section::<ZeroExtent, _>(
+        text,
+        first.next,
+        b"record=",
+        recorded,
+        |x| none_is_empty(x),
+    )?;
+    let third = read_section::<u64, _>(text, second.next, b"dirty=", dirty, |x| are_distinct(x))?;
+    if third.next < text.len() {
+        return None;
     }
-    Parsed::Accepted {
+    Some(Parsed {
         old_size: old,
         new_size: new,
-        extents: e,
-        recorded: r,
-        dirty: d,
-    }
+        extents: first.count,
+        recorded: second.count,
+        dirty: third.count,
+    })
 }
 
 // Reads a whole text. What it says of each kind comes to lie at the front of the buffer for that kind: two numbers a run,
@@ -80,19 +73,15 @@ pub fn parse(
     extents: &mut [u64; MOST_RUN_NUMBERS],
     recorded: &mut [u64; MOST_RUN_NUMBERS],
     dirty: &mut [u64; MOST_PAGES],
-) -> Parsed
+) -> Option<Parsed>
     ensures { outcome result extents.new recorded.new dirty.new ≡ filled_by (parseText text.now) extents.old recorded.old dirty.old }
 {
     if MOST_BYTES < text.len() {
-        return Parsed::Malformed;
+        return None;
     }
-    let first = read_field(text, 0, b"old_size=");
-    let Numeral::Read { value: old, next } = first else {
-        return Parsed::Malformed;
-    };
-    let second = read_field(text, next, b"new_size=");
-    let Numeral::Read { value: new, next } = second else {
-        return Parsed::Malformed;
-    };
-    parse_lists(text, next, old, new, extents, recorded, dirty)
+    let old = read_field(text, 0, b"old_size=")?;
+    let new = read_field(text, old.next, b"new_size=")?;
+    parse_lists(
+        text, new.next, old.value, new.value, extents, recorded, dirty,
+    )
 }

@@ -1,116 +1,147 @@
 // The lines of one kind, into a lent buffer. What its lines say lies at the front of the buffer, also where a later line
 // is wrong; the rest of the buffer stays.
-ghost use Rattle.std.specs.Prelude.{◌≡◌, ◌/◌, ◌≤◌, length};
-ghost use Rattle.decimal.specs.Text.{from};
-ghost use Rattle.meta.specs.Runs.{normalized};
-ghost use Rattle.plan_line.specs.Values.{ascii, non_empty, distinct};
-ghost use Rattle.plan_text.specs.Parse.{section, tested};
+ghost use Rattle.std.specs.Prelude.{◌≡◌, refl, Bool, List, [], ◌∷◌, ◌++◌, ℕ, ◌/◌, ◌<◌, length};
+ghost use Rattle.std.specs.Fn.{FnReturnsAt};
+ghost use Rattle.decimal.specs.Text.{Got, from};
+ghost use Rattle.meta.specs.Runs.{numbers_of};
 ghost use Rattle.plan_line.specs.Readers.{read_number, read_run};
+ghost use Rattle.plan_text.specs.Parse.{section, tested};
+ghost use Rattle.plan_text.specs.Entries.{entry_in, fill};
+ghost use Rattle.std.proofs.Common.{rules};
 
-use decimal::{Numeral, Place, skip};
-use plan_line::{Line, are_distinct, is_ascending, none_is_empty, read_number, read_run};
+use decimal::skip;
+use meta::ZeroExtent;
+use plan_line::{read_number, read_run};
 
-// How many lines there were, and where the text goes on; or a line was wrong, or one too many.
-#[derive(Clone, Copy)]
-pub enum Lines {
-    Ended { count: usize, next: usize },
-    Broken,
+// What a line says: a value, and the numbers that a buffer keeps of it.
+pub trait Entry: Copy {
+    // how many numbers
+    const WIDTH: usize;
+
+    ghost WIDTH: { ℕ };
+
+    ghost reading: { List ℕ → Got Self };
+
+    ghost numbers: { List Self → List ℕ };
+
+    // The value, and the place where the next line begins.
+    fn read(text: &[u8], at: usize) -> Option<(Self, usize)>
+        ensures { entry_in text.now result ≡ reading (from text.now at) };
+
+    fn put(self, out: &mut [u64])
+        requires { length out.old ≡ WIDTH }
+        ensures { out.new ≡ numbers (self ∷ []) };
+
+    ghost wide: { 0 < WIDTH };
+
+    ghost none: { numbers [] ≡ [] };
+
+    ghost more: { (x : Self) (xs : List Self) → numbers (x ∷ xs) ≡ numbers (x ∷ []) ++ numbers xs };
+
+    ghost width: { (x : Self) → length (numbers (x ∷ [])) ≡ WIDTH };
 }
 
-ghost use Rattle.plan_text.specs.Fill.{lines_in, fill_runs, fill_pages};
+impl Entry for ZeroExtent {
+    const WIDTH: usize = 2;
 
-// Lines of runs, two numbers a run.
-fn read_runs(text: &[u8], at: usize, key: &[u8], out: &mut [u64]) -> Lines
-    requires { length text.now ≤ 65536 }
-    ensures { lines_in text.now result out.new ≡ fill_runs 0 (section read_run key.now (length out.old / 2) (from text.now at)) out.old }
+    ghost WIDTH = { 2 };
+
+    ghost reading = { read_run };
+
+    ghost numbers = { numbers_of };
+
+    fn read(text: &[u8], at: usize) -> Option<(ZeroExtent, usize)> {
+        let line = read_run(text, at)?;
+        Some((line.run, line.next))
+    }
+
+    fn put(self, out: &mut [u64]) {
+        out.copy_from_slice(&[self.start, self.end]);
+    }
+
+    ghost wide = { Prim.search rules };
+
+    ghost none = { refl };
+
+    ghost more = { λ x xs. refl };
+
+    ghost width = { λ x. refl };
+}
+
+impl Entry for u64 {
+    const WIDTH: usize = 1;
+
+    ghost WIDTH = { 1 };
+
+    ghost reading = { read_number };
+
+    ghost numbers = { λ xs. xs };
+
+    fn read(text: &[u8], at: usize) -> Option<(u64, usize)> {
+        let line = read_number(text, at)?;
+        Some((line.value, line.next))
+    }
+
+    fn put(self, out: &mut [u64]) {
+        out.copy_from_slice(&[self]);
+    }
+
+    ghost wide = { Prim.search rules };
+
+    ghost none = { refl };
+
+    ghost more = { λ x xs. refl };
+
+    ghost width = { λ x. refl };
+}
+
+// How many lines there were, and where the text goes on.
+#[derive(Clone, Copy, Debug, PartialEq, Eq)]
+pub struct Lines {
+    pub count: usize,
+    pub next: usize,
+}
+
+ghost use Rattle.plan_text.specs.Fill.{lines_in};
+
+fn read_lines<E: Entry>(text: &[u8], at: usize, key: &[u8], out: &mut [u64]) -> Option<Lines>
+    ensures { lines_in text.now result out.new ≡ fill E.WIDTH E.numbers 0 (section E.reading key.now (length out.old / E.WIDTH) (from text.now at)) out.old }
 {
-    let most = out.len() / 2;
+    let most = out.len() / E::WIDTH;
     let mut here = at;
-    let mut count: usize = 0;
-    loop {
-        let found = skip(text, here, key);
-        let Place::At(value) = found else {
-            return Lines::Ended { count, next: here };
+    for count in 0..most {
+        let Some(value) = skip(text, here, key) else {
+            return Some(Lines { count, next: here });
         };
-        if count == most {
-            return Lines::Broken;
-        }
-        let line = read_run(text, value);
-        let Line::Run { start, end, next } = line else {
-            return Lines::Broken;
-        };
-        out[count * 2] = start;
-        out[count * 2 + 1] = end;
-        count += 1;
+        let (entry, next) = E::read(text, value)?;
+        let place = count * E::WIDTH;
+        entry.put(&mut out[place..place + E::WIDTH]);
         here = next;
     }
-}
-
-// Lines of page numbers.
-fn read_pages(text: &[u8], at: usize, key: &[u8], out: &mut [u64]) -> Lines
-    requires { length text.now ≤ 65536 }
-    ensures { lines_in text.now result out.new ≡ fill_pages 0 (section read_number key.now (length out.old) (from text.now at)) out.old }
-{
-    let mut here = at;
-    let mut count: usize = 0;
-    loop {
-        let found = skip(text, here, key);
-        let Place::At(value) = found else {
-            return Lines::Ended { count, next: here };
-        };
-        if count == out.len() {
-            return Lines::Broken;
-        }
-        let line = read_number(text, value);
-        let Numeral::Read { value: page, next } = line else {
-            return Lines::Broken;
-        };
-        out[count] = page;
-        count += 1;
-        here = next;
+    match skip(text, here, key) {
+        Some(_) => None,
+        None => Some(Lines {
+            count: most,
+            next: here,
+        }),
     }
 }
 
-pub fn read_extents(text: &[u8], at: usize, out: &mut [u64]) -> Lines
-    requires { length text.now ≤ 65536 }
-    ensures { lines_in text.now result out.new ≡ fill_runs 0 (tested normalized (section read_run (ascii "extent=") (length out.old / 2) (from text.now at))) out.old }
+// The lines of one kind, and a test of the numbers of all.
+pub fn read_section<E: Entry, F: Fn(&[u64]) -> bool>(
+    text: &[u8],
+    at: usize,
+    key: &[u8],
+    out: &mut [u64],
+    test: F,
+) -> Option<Lines>
+    requires { F.IsAlwaysCallable test }
+    ensures { (ok : List E → Bool) → ((xs : List E) (r : Bool) → FnReturnsAt F.Fn test (E.numbers xs) r → r ≡ ok xs) → lines_in text.now result out.new ≡ fill E.WIDTH E.numbers 0 (tested ok (section E.reading key.now (length out.old / E.WIDTH) (from text.now at))) out.old }
 {
-    let lines = read_runs(text, at, b"extent=", out);
-    let Lines::Ended { count, next } = lines else {
-        return Lines::Broken;
-    };
-    let used = count * 2;
-    if is_ascending(&out[..used]) {
-        return Lines::Ended { count, next };
+    let lines = read_lines::<E>(text, at, key, out)?;
+    let used = lines.count * E::WIDTH;
+    if !test(&out[..used]) {
+        return None;
     }
-    Lines::Broken
-}
-
-pub fn read_records(text: &[u8], at: usize, out: &mut [u64]) -> Lines
-    requires { length text.now ≤ 65536 }
-    ensures { lines_in text.now result out.new ≡ fill_runs 0 (tested non_empty (section read_run (ascii "record=") (length out.old / 2) (from text.now at))) out.old }
-{
-    let lines = read_runs(text, at, b"record=", out);
-    let Lines::Ended { count, next } = lines else {
-        return Lines::Broken;
-    };
-    let used = count * 2;
-    if none_is_empty(&out[..used]) {
-        return Lines::Ended { count, next };
-    }
-    Lines::Broken
-}
-
-pub fn read_dirty(text: &[u8], at: usize, out: &mut [u64]) -> Lines
-    requires { length text.now ≤ 65536 }
-    ensures { lines_in text.now result out.new ≡ fill_pages 0 (tested distinct (section read_number (ascii "dirty=") (length out.old) (from text.now at))) out.old }
-{
-    let lines = read_pages(text, at, b"dirty=", out);
-    let Lines::Ended { count, next } = lines else {
-        return Lines::Broken;
-    };
-    if are_distinct(&out[..count]) {
-        return Lines::Ended { count, next };
-    }
-    Lines::Broken
+    Some(lines)
 }

@@ -10,7 +10,7 @@ use Rattle.std.proofs.Math.ListN.{length, take, drop, set, length-append, length
 use Rattle.std.proofs.Math.Seq.{get_or-take, set_at, ext_get_or}
 use borrow.Author.Tests.{ltb-true, ltb-false}
 use Rattle.memory.specs.Bytes.{zeros, resize, overwrite}
-use Rattle.memory.specs.Laws.{split, below, length-zeros, zeros_at, length-resize, resize_in, resize_same, length-overwrite, overwrite_lo, overwrite_in}
+use Rattle.memory.specs.Laws.{split, below, length-zeros, zeros_at, length-resize, resize_in, resize_same, length-overwrite, overwrite_lo, overwrite_in, overwrite_out}
 use Rattle.update.specs.declared.CleanCache.{CleanCache}
 use Rattle.update.specs.Lists.{refill, tabulate}
 use Rattle.update.specs.ListLaws.{tabulate_at, length-tabulate, tabulate_alike, refill_same, refill_more, refill_two, refill_fewer, resize_push}
@@ -82,6 +82,16 @@ module _ (P C : ℕ) where
       (λ hi. overwrite_in c.count (zeros (C - c.count)) c.pages i hi (omega arith) (omega arith) ∙ zeros_at _ _
       ∙ sym (resize_in C (take c.count c.pages) i j ∙ get_or-eq_default (take c.count c.pages) 0 (omega arith)))) in
       rw (m, n, e)
+
+  -- any count
+  pub settled_least : (c : CleanCache) → length c.pages ≡ C
+      → record { pages = overwrite (min c.count C) (zeros (C - min c.count C)) c.pages; count = min c.count C } ≡ settled P C c
+  settled_least c l = below c.count C
+      (λ lo. let m : min c.count C ≡ c.count = omega arith in rw m (settled_part c l (omega arith)))
+      (λ hi.
+      let m : min c.count C ≡ C = omega arith in
+      let o : overwrite C (zeros (C - C)) c.pages ≡ c.pages = overwrite_out C (zeros (C - C)) c.pages (omega arith) in
+      rw (m, o) (settled_full c l hi))
 
   module _ (c : CleanCache) (ok : c ≡ settled P C c) where
     pub settled_numbers : c.pages ≡ resize C (cached P C c)

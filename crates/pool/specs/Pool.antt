@@ -1,19 +1,35 @@
 -- Pages in a pool, as the code walks it, and runs pushed on the record.
-use Rattle.std.specs.Prelude.{ℕ, zero, suc, ◌*◌, ◌/◌, Bool, true, false, not, cond, ◌||◌, List, [], ◌∷◌, ltb, leb, eqb, length, take, drop, get_or, set}
+use Rattle.std.specs.Prelude.{Option, Some, None, Result, Ok, Err, ℕ, zero, suc, ◌*◌, ◌/◌, Bool, true, false, not, cond, ◌||◌, List, [], ◌∷◌, ltb, leb, eqb, length, take, drop, get_or, set}
 use Rattle.memory.specs.Bytes.{overwrite}
 use Rattle.update.specs.Frames.{Pool, pool}
-use Rattle.pool.specs.declared.record.Pushed.{Pushed}
-use Rattle.pool.specs.declared.record.Pushed.TheVariants.{Entries, Full}
+use Rattle.config.specs.declared.refusal.Refusal.{Refusal}
+use Rattle.config.specs.declared.refusal.Refusal.TheVariants.{RecordFull}
+use Rattle.update.specs.Pages.{place_of}
+use Rattle.pool.specs.declared.pages.Kept.{Kept}
+use Rattle.pool.specs.declared.pages.Kept.TheVariants.{Below, AllBut}
 
 -- page q is one of the numbers
 abbrev pub among : List ℕ → ℕ → Bool
 among [] q = false
 among (n ∷ ns) q = eqb n q || among ns q
 
+-- the place of page q among the numbers, if it is one of them
+abbrev pub place_found : List ℕ → ℕ → Option ℕ
+place_found ns q = cond (ltb (place_of ns q) (length ns)) (Some (place_of ns q)) None
+
 -- the pages below p, or all but p
 abbrev pub stays : Bool → ℕ → ℕ → Bool
 stays true p q = ltb q p
 stays false p q = not (eqb q p)
+
+-- the same, as the code has it: whether it is the pages below one, and which page
+abbrev pub are_below : Kept → Bool
+are_below (Below p) = true
+are_below (AllBut p) = false
+
+abbrev pub page_of : Kept → ℕ
+page_of (Below p) = p
+page_of (AllBut p) = p
 
 -- ## As the code walks it
 
@@ -31,6 +47,10 @@ walked P below p (suc n) ns fs i to =
 
 -- ## The record
 
+-- the entries in use after a push, or 34
+abbrev pub Pushed : Type 0
+Pushed = Result ℕ Refusal
+
 pub record Pushes : Type 0 where
   pub entries : Pushed
   pub recs : List ℕ
@@ -42,5 +62,5 @@ pushes r w = record { entries = r; recs = w }
 unfoldable pub pushed : List ℕ → ℕ → ℕ → ℕ → Pushes
 pushed w n a e =
     cond (ltb a e)
-    (cond (leb (length w / 2) n) (pushes Full w) (pushes (Entries (suc n)) (overwrite (n * 2) (a ∷ e ∷ []) w)))
-    (pushes (Entries n) w)
+    (cond (leb (length w / 2) n) (pushes (Err RecordFull) w) (pushes (Ok (suc n)) (overwrite (n * 2) (a ∷ e ∷ []) w)))
+    (pushes (Ok n) w)

@@ -1,15 +1,16 @@
 -- Laws of a pool of pages as the code walks it.
-use Rattle.std.specs.Prelude.{◌≡◌, refl, ℕ, zero, suc, ◌+◌, ◌-◌, ◌*◌, ◌/◌, ◌≤◌, ◌<◌, min, Bool, true, false, ◌||◌, List, [], ◌∷◌, ◌++◌, eqb, length, take, drop, get_or, set}
-use Rattle.std.proofs.Common.{sym, ap, ◌∙◌, arith, true≢false, length-take, length-drop, drop_of_length-le, drop-cons, take-suc, get_or-take, get_or-drop, drop-drop}
+use Rattle.std.specs.Prelude.{Option, Some, None, ◌≡◌, refl, ℕ, zero, suc, ◌+◌, ◌-◌, ◌*◌, ◌/◌, ◌≤◌, ◌<◌, min, Bool, true, false, ◌||◌, List, [], ◌∷◌, ◌++◌, ltb, eqb, length, take, drop, get_or, set, Ok, Err}
+use Rattle.std.specs.List.{copy_within, position, position_or_len}
+use Rattle.std.proofs.Common.{take_all, append_assoc, sym, ap, ◌∙◌, arith, true≢false, length-take, length-drop, drop_of_length-le, drop-cons, take-suc, get_or-take, get_or-drop, drop-drop}
 use Rattle.std.proofs.Math.Numerals.{add-one}
 use Rattle.std.proofs.lemmas.List.{set-get_or}
-use borrow.Author.Tests.{eq-eqb, ne_eqb, lt-ltb, le-ltb, le-leb, lt-leb}
+use borrow.Author.Tests.{ltb-true, ltb-false, eq-eqb, ne_eqb, lt-ltb, le-ltb, le-leb, lt-leb}
 use Rattle.memory.specs.Bytes.{overwrite}
 use Rattle.memory.specs.Laws.{split, length_part, length-overwrite, overwrite_hi, overwrite_join, set_overwrite}
 use Rattle.update.specs.Pages.{place_of}
 use Rattle.update.specs.Frames.{Pool, pool}
-use Rattle.pool.specs.Pool.{among, stays, kept_one, walked, pushes, pushed}
-use Rattle.pool.specs.declared.record.Pushed.TheVariants.{Entries, Full}
+use Rattle.pool.specs.Pool.{among, place_found, stays, kept_one, walked, pushes, pushed}
+use Rattle.config.specs.declared.refusal.Refusal.TheVariants.{RecordFull}
 use Rattle.update.specs.ListLaws.{overwrite_self}
 
 -- a part and the next element
@@ -30,6 +31,41 @@ module _ (count : ℕ) (ns : List ℕ) (page i : ℕ) (h : i < min count (length
 
 pub place_end : (count : ℕ) (ns : List ℕ) (page i : ℕ) → min count (length ns) ≤ i → i + place_of (drop i (take count ns)) page ≡ i
 place_end count ns page i h = rw (drop_of_length-le (take count ns) {i = i} (simp length-take (omega arith))) (omega arith)
+
+pub place_first : (ns : List ℕ) (q : ℕ) → position_or_len (λ (n : ℕ). eqb n q) ns ≡ place_of ns q
+place_first [] q = refl
+place_first (n ∷ ns) q = split (eqb n q) (λ t. rw t) (λ f. rw (f, place_first ns q) (omega arith))
+
+-- ## Found or not
+
+pub found_at : (ns : List ℕ) (q at : ℕ) → Some at ≡ place_found ns q → (at ≡ place_of ns q) × (at < length ns)
+found_at ns q at e = split (ltb (place_of ns q) (length ns))
+    (λ t. let w : ◌≡◌ {A = Option ℕ} (Some at) (Some (place_of ns q)) = rw t at e in
+    let k : at ≡ place_of ns q = cc in
+    (k, omega (arith, ltb-true (place_of ns q) (length ns) t)))
+    (λ f. let w : ◌≡◌ {A = Option ℕ} (Some at) None = rw f at e in cc)
+
+pub found_none : (ns : List ℕ) (q : ℕ) → None ≡ place_found ns q → length ns ≤ place_of ns q
+found_none ns q e = split (ltb (place_of ns q) (length ns))
+    (λ t. let w : ◌≡◌ {A = Option ℕ} None (Some (place_of ns q)) = rw t at e in cc)
+    (λ f. ltb-false (place_of ns q) (length ns) f)
+
+-- the numbers behind the first k, of which none is the page
+module _ (k : ℕ) (ns rest : List ℕ) (q : ℕ) (past : place_of ns q ≡ k + place_of rest q) (l : k + length rest ≡ length ns) where
+  pub rest_found : (at : ℕ) → Some at ≡ position (λ (n : ℕ). eqb n q) rest → Some (k + at) ≡ place_found ns q
+  rest_found at e =
+      let h : Some at ≡ place_found rest q = rw (place_first rest q) at e in
+      let f : (at ≡ place_of rest q) × (at < length rest) = found_at rest q at h in
+      let p : k + at ≡ place_of ns q = omega (arith, f, past) in
+      let t : ltb (place_of ns q) (length ns) ≡ true = lt-ltb (place_of ns q) (length ns) (omega (arith, f, past, l)) in
+      rw (t, p)
+
+  pub rest_missed : None ≡ position (λ (n : ℕ). eqb n q) rest → None ≡ place_found ns q
+  rest_missed e =
+      let h : None ≡ place_found rest q = rw (place_first rest q) at e in
+      let f : length rest ≤ place_of rest q = found_none rest q h in
+      let t : ltb (place_of ns q) (length ns) ≡ false = le-ltb (place_of ns q) (length ns) (omega (arith, f, past, l)) in
+      rw t
 
 -- ## By blocks
 
@@ -84,6 +120,18 @@ move_more to from k fs h f =
     rw (r, e) (set_overwrite (to + k) (get_or fs (from + k) 0) (overwrite to new fs) (omega arith)
     ∙ (rw n at (overwrite_join to new (get_or fs (from + k) 0 ∷ []) fs)))
 
+-- ## A part moved
+
+-- `copy_within`, as a part written over the list
+pub moved : (to from n : ℕ) (xs : List ℕ) → from + n ≤ length xs → to + n ≤ length xs
+    → copy_within xs from (from + n) to ≡ overwrite to (take n (drop from xs)) xs
+unfolding overwrite
+moved to from n xs h k =
+    let m : from + n - from ≡ n = omega arith in
+    let l : length (take n (drop from xs)) ≡ n = length_part from n xs h in
+    let a : take (length xs - to) (take n (drop from xs)) ≡ take n (drop from xs) = take_all (length xs - to) (take n (drop from xs)) (omega arith) in
+    rw (m, l, a) (append_assoc (take to xs) (take n (drop from xs)) (drop (to + n) xs))
+
 -- ## The record
 
 -- a run's two numbers stored
@@ -92,16 +140,16 @@ set_two w i a e h =
     rw (set_overwrite i a w (omega arith)) (set_overwrite (i + 1) e (overwrite i (a ∷ []) w) (omega (arith, length-overwrite i (a ∷ []) w)) ∙ overwrite_join i (a ∷ []) (e ∷ []) w)
 
 module _ (w : List ℕ) (n a e : ℕ) where
-  pub push_none : e ≤ a → pushed w n a e ≡ pushes (Entries n) w
+  pub push_none : e ≤ a → pushed w n a e ≡ pushes (Ok n) w
   unfolding pushed
   push_none h = rw (le-ltb a e h)
 
   module _ (h : a < e) where
-    pub push_full : length w / 2 ≤ n → pushed w n a e ≡ pushes Full w
+    pub push_full : length w / 2 ≤ n → pushed w n a e ≡ pushes (Err RecordFull) w
     unfolding pushed
     push_full k = rw (lt-ltb a e h, le-leb (length w / 2) n k)
 
-    pub push_room : n < length w / 2 → pushed w n a e ≡ pushes (Entries (n + 1)) (overwrite (n * 2) (a ∷ e ∷ []) w)
+    pub push_room : n < length w / 2 → pushed w n a e ≡ pushes (Ok (n + 1)) (overwrite (n * 2) (a ∷ e ∷ []) w)
     unfolding pushed
     push_room k = rw (lt-ltb a e h, lt-leb (length w / 2) n k, add-one n)
 

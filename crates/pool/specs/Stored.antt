@@ -1,5 +1,5 @@
 -- The image's bytes as memory holds them, where no run covers their page.
-use Rattle.std.specs.Prelude.{◌≡◌, refl, true, false, List, take, drop}
+use Rattle.std.specs.Prelude.{◌≡◌, true, false, List, take, drop}
 use Rattle.std.proofs.Math.Path.{sym, ap, subst}
 use Rattle.std.proofs.Common.{◌∙◌, arith, length-take, ext_get_or}
 use Prim.Native.Nat.{ℕ, ◌+◌, ◌-◌, ◌/◌, ◌≤◌, ◌<◌, min}

@@ -1,4 +1,5 @@
 // Pages in lent slices: frames of 16,384 bytes one behind the other with a list of page numbers, the clean cache, the record, and the image's pages.
+// A count stands beside a slice where that is lent with room for more.
 #![tactic(auto)]
 
 mod cache;
@@ -6,7 +7,7 @@ mod image;
 mod pages;
 mod record;
 
-pub use cache::{insert, load, retain_clean, settle};
+pub use cache::{insert, load, retain_clean_below, settle};
 pub use image::{reach, read_image, read_stored};
-pub use pages::{find, retain};
-pub use record::{Pushed, push_run};
+pub use pages::{find, retain_below};
+pub use record::push_run;

@@ -1,5 +1,5 @@
 -- The store's definition at the size and at a read: one law for each way out.
-use Rattle.std.specs.Prelude.{◌≡◌, Bool, true, false, cond, ◌||◌, ltb, leb}
+use Rattle.std.specs.Prelude.{◌≡◌, Bool, true, false, cond, ◌||◌, ltb, leb, Ok, Err}
 use Rattle.std.proofs.Math.Path.{refl, ap}
 use Rattle.std.proofs.Common.{sym, ◌∙◌, arith, lt-ltb, le-ltb, le-leb, leb-true, leb-false}
 use Prim.Native.Nat.{ℕ, ◌+◌, ◌-◌, ◌*◌, ◌≤◌, ◌<◌}
@@ -12,12 +12,10 @@ use Rattle.update.specs.Lists.{tabulate_from}
 use Rattle.update.specs.Image.{image_in}
 use Rattle.update.specs.Update.{Over, read_over, read_bytes}
 use Rattle.update.specs.Buffers.{Buffers, short_buffers, view}
-use Rattle.overlay_reads.specs.declared.Reading.TheVariants.{Full, Short}
-use Rattle.overlay_reads.specs.declared.Reading.TheVariants.{Refused as Unread}
 use Rattle.overlay_reads.specs.Reads.{Seen, seen, showing, read_at, reading}
 use Rattle.store.specs.declared.State.{State}
-use Rattle.store.specs.declared.Answer.{Answer}
-use Rattle.store.specs.declared.Answer.TheVariants.{Size, Read, Refused}
+use Rattle.store.specs.Answers.{Answer}
+use Rattle.store.specs.Answers.{Size, Read, Refused}
 use Rattle.store.specs.Codec.{real_codec}
 use Rattle.store.specs.Calls.{read, file_size, Lent, Out, out, update, mode_if, mode_of, buffers_short, short}
 use Rattle.store.specs.Store.{store, working, do_read, size_now, full}
@@ -52,7 +50,7 @@ within size o n h false e = lt-leb (o + n) size (omega (arith, leb-false n (size
 pub within_is : (size o n : ℕ) → o ≤ size → leb (o + n) size ≡ leb n (size - o)
 within_is size o n h = within size o n h (leb n (size - o)) refl
 
-full_or_short : (t : Bool) → read_answer (cond t Full Short) ≡ Read t
+full_or_short : (t : Bool) → read_answer (cond t (Ok true) (Ok false)) ≡ Read t
 full_or_short true = refl
 full_or_short false = refl
 
@@ -101,7 +99,7 @@ module _ (s : State) (m : List ℕ) (b : Buffers) (w : List ℕ) (o : ℕ) (d : 
           let w' : Over = read_over 16384 8 (image_in 16384 (image_of s.block) m) o k (view 16384 8 s.overlay b) in
           let bs : List ℕ = read_bytes 16384 8 (image_in 16384 (image_of s.block) m) o k (view 16384 8 s.overlay b) in
           let x : Seen = showing 16384 8 (image_of s.block) m s.overlay b w' bs (reading s.overlay.size o k) in
-          ap (λ (t : Bool). shown (cond t (seen s.overlay b d (Unread BufferTooShort)) x)) f
+          ap (λ (t : Bool). shown (cond t (seen s.overlay b d (Err BufferTooShort)) x)) f
           ∙ ap (λ (a : Answer). out (working s.count.0 s.block x.overlay) (lent m x.bufs w) a bs) (full_or_short (full 16384 65536 8 1024 most real_codec s.overlay.size o k))
 
       pub read_updating : s.updating ≡ true → (x : Seen) → x ≡ read_at 16384 8 (image_of s.block) m s.overlay b o d → shown x ≡ calls s (lent m b w) (read o d)

@@ -1,17 +1,22 @@
 -- The laws of runs in a list of numbers.
 use Rattle.std.specs.Prelude.{ℕ, zero, suc, ◌+◌, ◌-◌, ◌*◌, ◌/◌, ◌≤◌, ◌<◌, min, ◌≡◌, refl, Bool, true, false, ◌||◌, List, [], ◌∷◌, ◌++◌, ltb, length, get_or, set, take, replicate}
-use Rattle.std.proofs.Common.{sym, ◌∙◌, append_assoc, append-nil, ⊎_elim, length-set, length-append, length-take, take-append-drop, get_or-set_same, get_or-set_other, drop-set-lt, drop-cons, take_all, take-suc-set}
+use Rattle.std.proofs.Common.{sym, ◌∙◌, append_assoc, append-nil, ⊎_elim, length-set, length-append, length-take, length-drop, take-append-drop, get_or-set_same, get_or-set_other, drop-set-lt, drop-cons, take_all, take-suc-set}
 use Rattle.std.proofs.Math.Path.{ap}
 use Rattle.std.proofs.Math.Bool.{or_assoc, or_comm, and-false}
 use native.Mathlib.Omega.{arith}
 use Rattle.std.proofs.Math.ListN.{drop}
-use Rattle.std.proofs.lemmas.List.{length-replicate, set-get_or}
+use Rattle.std.proofs.Math.Seq.{drop-append_seam}
+use Rattle.std.specs.List.{copy_within}
+use Rattle.std.specs.List.Sorted.{IsPartitionedBy, IsPartitionPoint}
+use Rattle.std.specs.Simd.{first_chunks}
+use Rattle.std.proofs.lemmas.List.{length-replicate, set-get_or, take-take, take-append-le, get_or-take, get_or-drop}
 use borrow.Author.Tests.{lt-ltb, le-ltb}
+use Rattle.std.proofs.lemmas.Bool.{ltb-true, ltb-false}
 use Rattle.meta.specs.declared.ZeroExtent.{ZeroExtent}
 use Rattle.meta.specs.Runs.{run, runs_of, numbers_of, normalized}
 use Rattle.runs.specs.Sets.{within, covers, join, merge, insert, add, maximal, without, piece, remove}
 use Rattle.runs.specs.Members.{From, le_or_lt, merge_nil, merge_stop, merge_join, insert_nil, insert_skip, insert_here, remove_nil, remove_skip, remove_not, remove_here, add-length, remove-length}
-use Rattle.runs.specs.SetLaws.{covers_append, maximal_covers, maximal_normalized, maximal_alike, normalized_from, maximal_self, maximal_more, maximal_without, maximal_less}
+use Rattle.runs.specs.SetLaws.{split, covers_append, maximal_covers, maximal_normalized, maximal_alike, normalized_from, maximal_self, maximal_more, maximal_without, maximal_less}
 use Rattle.runs.specs.Flat.{runs_in, Out, out, held, padded, laid, at, put, seg, upto, write, place}
 
 pub length-put : (w : List ℕ) (i : ℕ) (x : ZeroExtent) → length (put w i x) ≡ length w
@@ -150,6 +155,11 @@ runs_even (a ∷ []) = refl
 runs_even (a ∷ b ∷ l) =
     let e : suc (suc (length l)) / 2 * 2 ≡ suc (suc (length l / 2 * 2)) = omega arith in
     rw e (λ k. run a b ∷ runs_even l k)
+
+-- all runs of the numbers
+pub runs_in-all : (w : List ℕ) → runs_in (length w / 2) w ≡ runs_of w
+unfolding runs_in
+runs_in-all w = runs_even w
 
 runs_half : (v : List ℕ) → length (runs_of v) * 2 ≤ length v
 runs_half [] = omega arith
@@ -463,7 +473,7 @@ padded_none n = let e : n - 0 ≡ n = omega arith in rw e
 -- ## Runs copied in, one by one
 
 -- the run x has been added to the runs l, and the rest is to come
-turned : (x : ZeroExtent) (rest l : List ZeroExtent) (p : ℕ) → covers (rest ++ maximal (x ∷ l)) p ≡ covers (x ∷ (rest ++ l)) p
+pub turned : (x : ZeroExtent) (rest l : List ZeroExtent) (p : ℕ) → covers (rest ++ maximal (x ∷ l)) p ≡ covers (x ∷ (rest ++ l)) p
 turned x rest l p =
     covers_append rest (maximal (x ∷ l)) p
     ∙ ap (λ (b : Bool). covers rest p || b) (maximal_covers (x ∷ l) p)
@@ -529,3 +539,119 @@ module _ (w : List ℕ) (i n : ℕ) where
       pub tidy_step : x.start < x.end → x.end < y.start → normalized (upto w i n) ≡ normalized (upto w (i + 1) n)
       unfolding normalized
       tidy_step g k = rw (upto_more w i n h, ← e, upto_more w (i + 1) n j, lt-ltb _ _ g, lt-ltb _ _ (rw d at k))
+
+-- ## Runs moved as numbers
+
+numbers_upto : (w : List ℕ) (j n : ℕ) → j ≤ n → n * 2 ≤ length w → numbers_of (upto w j n) ≡ take (n * 2 - j * 2) (drop (j * 2) w)
+unfolding upto
+numbers_upto w j n g h =
+    let v : List ℕ = take ((n - j) * 2) (drop (j * 2) w) in
+    let e : (n - j) * 2 ≡ n * 2 - j * 2 = omega arith in
+    let l : length v ≡ (n - j) * 2 = omega (arith, length-take ((n - j) * 2) (drop (j * 2) w), length-drop (j * 2) w) in
+    ap numbers_of (seg_runs w j (n - j) (omega arith)) ∙ numbers_runs v (n - j) l ∙ ap (λ (k : ℕ). take k (drop (j * 2) w)) e
+
+-- the runs from j on, moved down to o
+pub moved_down : (w : List ℕ) (o j n : ℕ) → o ≤ j → j ≤ n → n * 2 ≤ length w → out (copy_within w (j * 2) (n * 2) (o * 2)) (o + (n - j)) ≡ write w o (upto w j n)
+moved_down w o j n f g h =
+    let k : o * 2 + (n * 2 - j * 2) ≡ (o + (n - j)) * 2 = omega arith in
+    let a : write w o (upto w j n) ≡ out (take (o * 2) w ++ (numbers_of (upto w j n) ++ drop ((o + length (upto w j n)) * 2) w)) (o + length (upto w j n)) = write_all w o (upto w j n) (omega (arith, length-upto w j n)) in
+    sym (a ∙ rw (length-upto w j n, numbers_upto w j n g h, ← k) (ap (λ (v : List ℕ). out v (o + (n - j))) (sym (append_assoc (take (o * 2) w) _ _))))
+
+-- one run stored
+put_all : (v : List ℕ) (i : ℕ) (x : ZeroExtent) → i * 2 + 1 < length v → put v i x ≡ take (i * 2) v ++ (x.start ∷ x.end ∷ drop (i * 2 + 2) v)
+put_all v i x h =
+    let e : (i + 1) * 2 ≡ i * 2 + 2 = omega arith in
+    ap (λ (o : Out). o.work) (sym (write_cons v i x [] ∙ write_nil (put v i x) (i + 1)) ∙ write_all v i (x ∷ []) (omega arith)) ∙ rw e
+
+-- room for one run before the runs from i on
+module _ (w : List ℕ) (i n : ℕ) (g : i ≤ n) (h : n * 2 + 1 < length w) where
+  behind : List ℕ
+  behind = take (n * 2 - i * 2) (drop (i * 2) w) ++ drop ((n + 1) * 2) w
+
+  roomed : copy_within w (i * 2) (n * 2) (i * 2 + 2) ≡ take (i * 2 + 2) w ++ behind
+  unfolding behind
+  roomed =
+      let k : i * 2 + 2 + (n * 2 - i * 2) ≡ (n + 1) * 2 = omega arith in
+      append_assoc (take (i * 2 + 2) w) (take (n * 2 - i * 2) (drop (i * 2) w)) (drop (i * 2 + 2 + (n * 2 - i * 2)) w) ∙ rw k
+
+  before_room : length (take (i * 2 + 2) w) ≡ i * 2 + 2
+  before_room = omega (arith, length-take (i * 2 + 2) w)
+
+  room_taken : take (i * 2) (take (i * 2 + 2) w ++ behind) ≡ take (i * 2) w
+  room_taken = take-append-le (i * 2) (take (i * 2 + 2) w) behind (omega (arith, before_room)) ∙ take-take (i * 2) (i * 2 + 2) w (omega arith)
+
+  room_dropped : drop (i * 2 + 2) (take (i * 2 + 2) w ++ behind) ≡ behind
+  room_dropped = ap (λ (k : ℕ). drop k (take (i * 2 + 2) w ++ behind)) (sym before_room) ∙ drop-append_seam (take (i * 2 + 2) w) behind
+
+  -- the runs from i on, moved up by one, and x before them
+  pub moved_up : (x : ZeroExtent) → out (put (copy_within w (i * 2) (n * 2) (i * 2 + 2)) i x) (n + 1) ≡ write w i (x ∷ upto w i n)
+  unfolding behind
+  moved_up x =
+      let l : length (upto w i n) ≡ n - i = length-upto w i n in
+      let c : i + suc (length (upto w i n)) ≡ n + 1 = omega arith in
+      let v : List ℕ = take (i * 2 + 2) w ++ behind in
+      let room : i * 2 + 1 < length v = omega (arith, before_room, length-append (take (i * 2 + 2) w) behind) in
+      let a : write w i (x ∷ upto w i n) ≡ out (take (i * 2) w ++ (x.start ∷ x.end ∷ (numbers_of (upto w i n) ++ drop ((i + suc (length (upto w i n))) * 2) w))) (i + suc (length (upto w i n))) = write_all w i (x ∷ upto w i n) (omega arith) in
+      let b : put v i x ≡ take (i * 2) w ++ (x.start ∷ x.end ∷ behind) = put_all v i x room ∙ rw (room_taken, room_dropped) in
+      rw roomed (sym (a ∙ rw (c, numbers_upto w i n g (omega arith)) (ap (λ (u : List ℕ). out u (n + 1)) (sym b))))
+
+-- ## The place among pairs of numbers
+
+-- the pair of numbers ends before page p
+abbrev pub ends_before : ℕ → List ℕ → Bool
+ends_before p pair = ltb (get_or pair 1 0) p
+
+pair_ends : (w : List ℕ) (n k : ℕ) (d : List ℕ) → k < n → n * 2 ≤ length w → get_or (get_or (first_chunks 2 n w) k d) 1 0 ≡ (at w k).end
+unfolding at
+pair_ends w zero k d h g = absurd (omega arith)
+pair_ends w (suc n) zero d h g = get_or-take 2 w 1 0 (omega arith)
+pair_ends w (suc n) (suc k) d h g =
+    let e : 2 + (k * 2 + 1) ≡ suc k * 2 + 1 = omega arith in
+    pair_ends (drop 2 w) n k d (omega arith) (omega (arith, length-drop 2 w)) ∙ get_or-drop 2 w (k * 2 + 1) 0 ∙ ap (λ (i : ℕ). get_or w i 0) e
+
+length-pairs : (w : List ℕ) (n : ℕ) → length (first_chunks 2 n w) ≡ n
+length-pairs w zero = refl
+length-pairs w (suc n) = ap suc (length-pairs (drop 2 w) n)
+
+module _ (w : List ℕ) (n p : ℕ) (h : n * 2 ≤ length w) (f : normalized (upto w 0 n) ≡ true) where
+  pairs : List (List ℕ)
+  pairs = first_chunks 2 n (take (n * 2) w)
+
+  pair-end : (k : ℕ) (d : List ℕ) → k < n → get_or (get_or pairs k d) 1 0 ≡ (at w k).end
+  unfolding pairs at
+  pair-end k d g =
+      let l : length (take (n * 2) w) ≡ n * 2 = omega (arith, length-take (n * 2) w) in
+      pair_ends (take (n * 2) w) n k d g (omega arith) ∙ get_or-take (n * 2) w (k * 2 + 1) 0 (omega arith)
+
+  ends-before_place : (k : ℕ) (d : List ℕ) → k < n → ends_before p (get_or pairs k d) ≡ true → k < place p (upto w 0 n)
+  ends-before_place k d g e =
+      let t : (at w k).end < p = rw (pair-end k d g) at (ltb-true _ _ e) in
+      place_up w n p k (at w k) g refl f t
+
+  ends-from_place : (k : ℕ) (d : List ℕ) → k < n → ends_before p (get_or pairs k d) ≡ false → place p (upto w 0 n) ≤ k
+  ends-from_place k d g e =
+      let t : p ≤ (at w k).end = rw (pair-end k d g) at (ltb-false _ _ e) in
+      place_down w n p k (at w k) g refl t
+
+  -- those that end before the page come first
+  pub pairs_partitioned : IsPartitionedBy (ends_before p) (first_chunks 2 n (take (n * 2) w))
+  unfolding pairs
+  pairs_partitioned i j d g k e =
+      let m : j < n = omega (arith, length-pairs (take (n * 2) w) n) in
+      let later : j < place p (upto w 0 n) = ends-before_place j d m e in
+      split (ends_before p (get_or pairs i d)) (λ t. t) (λ u. let sooner : place p (upto w 0 n) ≤ i = ends-from_place i d (omega arith) u in absurd (omega arith))
+
+  -- and as many as they are is the place
+  pub pairs_place : (i : ℕ) → i ≤ n → IsPartitionPoint (λ (y : List ℕ). ends_before p y ≡ true) (λ (y : List ℕ). ends_before p y ≡ false) (first_chunks 2 n (take (n * 2) w)) i → i ≡ place p (upto w 0 n)
+  unfolding pairs
+  pairs_place i g q =
+      let l : length (first_chunks 2 n (take (n * 2) w)) ≡ n = length-pairs (take (n * 2) w) n in
+      let low : i ≤ place p (upto w 0 n) = ⊎_elim
+      (λ (z : i ≤ 0). omega arith)
+      (λ (z : 0 < i). let k : i - 1 < n = omega arith in let b : i - 1 < place p (upto w 0 n) = ends-before_place (i - 1) [] k (q.0 (i - 1) [] (omega arith) (omega arith)) in omega arith)
+      (le_or_lt i 0) in
+      let high : place p (upto w 0 n) ≤ i = ⊎_elim
+      (λ (z : n ≤ i). omega (arith, place_le w n p))
+      (λ (z : i < n). ends-from_place i [] z (q.1 i [] (omega arith) (omega arith)))
+      (le_or_lt n i) in
+      omega arith

@@ -3,3 +3,4 @@ pub mod Members
 pub mod SetLaws
 pub mod Flat
 pub mod FlatLaws
+pub mod Lists

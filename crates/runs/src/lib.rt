@@ -1,6 +1,8 @@
-// Sets of zero pages as runs in a list of numbers.
+// Sets of zero pages as lists of runs: in numbers, in bytes, or as values.
 #![tactic(auto)]
 
+mod list;
 mod work;
 
-pub use work::{at_most, clear, covered, has, is_normalized, read};
+pub use list::{RunList, covers_page, is_normalized};
+pub use work::{Numbers, Stored, clear, covered, first, read};

@@ -1,5 +1,5 @@
 -- A change that the overlay made, and then settled, is the store's call.
-use Rattle.std.specs.Prelude.{◌≡◌, refl, Bool, ◌||◌, List, [], ltb, length}
+use Rattle.std.specs.Prelude.{◌≡◌, refl, Bool, ◌||◌, List, [], ltb, length, Ok, Err}
 use Rattle.std.proofs.Math.Path.{sym, ap, subst}
 use Rattle.std.proofs.Common.{◌∙◌, ltb-false, le-ltb}
 use Prim.Native.Nat.{ℕ, ◌+◌, ◌*◌, ◌≤◌, max}
@@ -10,16 +10,14 @@ use Rattle.config.specs.declared.refusal.Refusal.{Refusal}
 use Rattle.config.specs.declared.refusal.Refusal.TheVariants.{OffsetOverflow, ZeroExtentLimitExceeded, BufferTooShort}
 use Rattle.memory.specs.Bytes.{zeros}
 use Rattle.memory.specs.Growth.{grow_to}
-use Rattle.memory.specs.declared.Growth.{Growth}
-use Rattle.memory.specs.declared.Growth.TheVariants.{Grown, Refused as NotGrown}
+use Rattle.memory.specs.Growth.{Growth}
 use Rattle.meta.specs.declared.superblock.Superblock.{Superblock}
 use Rattle.meta.specs.declared.ZeroExtent.{ZeroExtent}
 use Rattle.extents.specs.Plan.{too_many, kept, below, Answer as Planned}
 use Rattle.image.specs.Reading.{image_of}
 use Rattle.update.specs.declared.Overlay.{Overlay}
 use Rattle.update.specs.declared.Budget.{Budget}
-use Rattle.update.specs.declared.Verdict.{Verdict}
-use Rattle.update.specs.declared.Verdict.TheVariants.{Accepted, Refused as Unchanged}
+use Rattle.update.specs.Verdict.{Verdict}
 use Rattle.update.specs.Pages.{page_numbers}
 use Rattle.update.specs.Image.{image_in}
 use Rattle.update.specs.Update.{Over, fresh, Tried, accepted, refused, left, try_write, try_truncate, truncate_reach}
@@ -31,8 +29,8 @@ use Rattle.update.specs.LeaveLaws.{Fit, view_room, view_left, step_fits, step_fr
 use Rattle.update.specs.SettleLaws.{settle_view, settle_leave, settle_fits}
 use Rattle.overlay.specs.Calls.{write_at, truncate_to}
 use Rattle.store.specs.declared.State.{State}
-use Rattle.store.specs.declared.Answer.{Answer}
-use Rattle.store.specs.declared.Answer.TheVariants.{Done, Refused}
+use Rattle.store.specs.Answers.{Answer}
+use Rattle.store.specs.Answers.{Done, Refused}
 use Rattle.store.specs.Codec.{Codec, real_codec, sealed, stored}
 use Rattle.store.specs.Blocks.{after_commit}
 use Rattle.store.specs.Cases.{no_or}
@@ -54,8 +52,8 @@ module _ (P S C L M : ℕ) (k : Codec) (s : State) (m w : List ℕ) (a b : Buffe
   over_alike x = ap (λ (q : Buffers). out (ended P S C L M k s.count.0 s.block) (lent m q w) x []) e
 
   publish_alike : (u : Bool) (x : Over) (rs : List ZeroExtent) (n : List ℕ) (g : Growth) → publish P S C L M k u s (lent m a w) x rs n g ≡ publish P S C L M k u s (lent m b w) x rs n g
-  publish_alike u x rs n (NotGrown r) = over_alike (Refused r)
-  publish_alike u x rs n (Grown c) =
+  publish_alike u x rs n (Err r) = over_alike (Refused r)
+  publish_alike u x rs n (Ok c) =
       let t : Superblock = after_commit P M u x.size (length rs) s.block in
       ap (λ (q : Buffers). out (ended P S C L M k c.0 (sealed k t rs)) (lent (stored k t rs (write_pages P S C L M k s.block.db_base_offset (count P x.size) x.dirty n)) q w) Done []) e
 
@@ -306,14 +304,14 @@ module _ (s : State) where
         ∙ sym (ap (λ (u : Bool). settled s (lent m b w) v a (mode_if u s.overlay)) t)
 
     module _ (f : s.updating ≡ false) where
-      pub settled_accepted : a ≡ Accepted
+      pub settled_accepted : a ≡ (Ok tt)
           → swept 16384 65536 8 1024 most real_codec true (commit_over 16384 65536 8 1024 most real_codec false s (lent m b w) v.base_size (view 16384 8 v b)) ≡ settled s (lent m b w) v a (mode_of s)
       settled_accepted e =
-          sym (ap (λ (y : Verdict). settled s (lent m b w) v y (mode_of s)) e ∙ ap (λ (u : Bool). settled s (lent m b w) v Accepted (mode_if u s.overlay)) f)
+          sym (ap (λ (y : Verdict). settled s (lent m b w) v y (mode_of s)) e ∙ ap (λ (u : Bool). settled s (lent m b w) v (Ok tt) (mode_if u s.overlay)) f)
 
-      pub settled_refused : (r : Refusal) → a ≡ Unchanged r → (s' : State) → s' ≡ ended 16384 65536 8 1024 most real_codec s.count.0 s.block
+      pub settled_refused : (r : Refusal) → a ≡ Err r → (s' : State) → s' ≡ ended 16384 65536 8 1024 most real_codec s.count.0 s.block
           → (b' : Buffers) (w' : List ℕ) → lent [] b' w' ≡ lent [] (wiped b) (zeros (length w))
           → out s' (lent m b' w') (Refused r) [] ≡ settled s (lent m b w) v a (mode_of s)
       settled_refused r e s' d b' w' z =
           (λ i. out (d i) (lent m (z i).bufs (z i).work) (Refused r) [])
-          ∙ sym (ap (λ (y : Verdict). settled s (lent m b w) v y (mode_of s)) e ∙ ap (λ (u : Bool). settled s (lent m b w) v (Unchanged r) (mode_if u s.overlay)) f)
+          ∙ sym (ap (λ (y : Verdict). settled s (lent m b w) v y (mode_of s)) e ∙ ap (λ (u : Bool). settled s (lent m b w) v (Err r) (mode_if u s.overlay)) f)

@@ -8,7 +8,7 @@ use Rattle.std.proofs.Math.Dec.{eqb}
 use borrow.Author.Tests.{eq-eqb, ne_eqb}
 use Rattle.meta.specs.declared.superblock.Superblock.{Superblock}
 use Rattle.meta.specs.Block.{sealed_by}
-use Rattle.store.specs.Blocks.{after_commit, after_import_begin, after_import_cancel, after_import_chunk, after_import_finish, after_refresh, after_refresh_step, bit, importing, marks, refreshing, set_flags, set_import, stale}
+use Rattle.store.specs.Blocks.{after_commit, after_import_begin, after_import_cancel, after_import_chunk, after_import_finish, after_refresh, after_refresh_step, bit, importing, marks, refreshing, stale}
 use Rattle.store.specs.Blocks.{Keeps, KeepsImport, Commits, ImportBegins, ChunkKeeps, Cancels, Finishes}
 
 module _ (b : Superblock) (s r : Bool) (f : ℕ) where

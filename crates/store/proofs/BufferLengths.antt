@@ -1,6 +1,6 @@
 -- Every lent slice of an update keeps its length, for any state, any bytes and any call; what a truncation leaves in frames that it took and gave up; and
 -- that slices and memory which are long enough for the state before a call are so for the state after it.
-use Rattle.std.specs.Prelude.{◌≡◌, not, ◌&&◌, ◌||◌, List, take, drop, get_or}
+use Rattle.std.specs.Prelude.{◌≡◌, not, ◌&&◌, ◌||◌, List, take, drop, get_or, Ok, Err}
 use Rattle.std.proofs.Math.Path.{refl, sym, ap, subst}
 use Rattle.std.proofs.Common.{◌∙◌, le-div_iff_mul-le, mul-le-mul_right}
 use Prim.Native.Nat.{ℕ, ◌+◌, ◌*◌, ◌/◌, ◌≤◌, ◌<◌, max, min}
@@ -14,8 +14,7 @@ use Rattle.config.specs.Pages.{count}
 use Rattle.memory.specs.Bytes.{resize}
 use Rattle.memory.specs.Laws.{length-zeros, length-resize}
 use Rattle.memory.specs.Growth.{grow_to}
-use Rattle.memory.specs.declared.Growth.{Growth}
-use Rattle.memory.specs.declared.Growth.TheVariants.{Grown, Refused as NotGrown}
+use Rattle.memory.specs.Growth.{Growth}
 use Rattle.meta.specs.declared.superblock.Superblock.{Superblock}
 use Rattle.meta.specs.declared.ZeroExtent.{ZeroExtent}
 use Rattle.runs.specs.FlatLaws.{length-runs_in}
@@ -28,7 +27,7 @@ use Rattle.update.specs.Buffers.{Buffers, frame_count, entry_count, wiped, cache
 use Rattle.update.specs.BufferLaws.{GivenBack, given_back}
 use Rattle.update.specs.Rooms.{Room, write_room, truncate_room, try_grow_lem, read_room}
 use Rattle.store.specs.declared.State.{State}
-use Rattle.store.specs.declared.Answer.{Answer}
+use Rattle.store.specs.Answers.{Answer}
 use Rattle.store.specs.Codec.{Codec}
 use Rattle.store.specs.Blocks.{importing, refreshing}
 use Rattle.store.specs.Calls.{Call, begin, read, write, truncate, commit, rollback, file_size, import_begin, import_chunk, import_finish, import_cancel, export, checksum, refresh, refresh_step, Lent, Out, uses, Mode, idle, update, mode_of, buffers_short, short}
@@ -119,8 +118,8 @@ module _ (P S C L M : ℕ) (k : Codec) (pos : 0 < P) where
   Q l x = SameLengths l.bufs x.lent.bufs
 
   publish_same : (u : Bool) (s : State) (l : Lent) (w : Over) (rs : List ZeroExtent) (m : List ℕ) (g : Growth) → Q l (publish P S C L M k u s l w rs m g)
-  publish_same u s l w rs m (NotGrown r) = wiped_same l.bufs
-  publish_same u s l w rs m (Grown c) = wiped_same l.bufs
+  publish_same u s l w rs m (Err r) = wiped_same l.bufs
+  publish_same u s l w rs m (Ok c) = wiped_same l.bufs
 
   settle_same : (u : Bool) (s : State) (l : Lent) (w : Over) (x : Planned) → Q l (settle P S C L M k u s l w x)
   settle_same u s l w too_many = wiped_same l.bufs
@@ -143,8 +142,8 @@ module _ (P S C L M : ℕ) (k : Codec) (pos : 0 < P) where
 
   place_same : (s : State) (l : Lent) (o : ℕ) (bs m : List ℕ) (g : Growth) → Q l (place_chunk P S C L M k s l o bs m g)
   unfolding restore
-  place_same s l o bs m (NotGrown r) = same l.bufs
-  place_same s l o bs m (Grown c) = same l.bufs
+  place_same s l o bs m (Err r) = same l.bufs
+  place_same s l o bs m (Ok c) = same l.bufs
 
   begin_same : (s : State) (l : Lent) (t e : ℕ) → Q l (do_import_begin P S C L M k s l t e)
   unfolding do_import_begin
@@ -312,8 +311,8 @@ module _ (P S C L M : ℕ) (k : Codec) (pos : 0 < P) where
           by_test U (ltb M end) _ _ (λ t. wiped_long) (λ f. published u w rs (grow_to S s.count.0 end l.mem).mem (grow_to S s.count.0 end l.mem).growth)
         where
           published : (u : Bool) (w : Over) (rs : List ZeroExtent) (m : List ℕ) (g : Growth) → U (publish P S C L M k u s l w rs m g)
-          published u w rs m (NotGrown r) = wiped_long
-          published u w rs m (Grown c) = wiped_long
+          published u w rs m (Err r) = wiped_long
+          published u w rs m (Ok c) = wiped_long
 
       commit_long : (u : Bool) (begun : ℕ) (w : Over) → U (commit_over P S C L M k u s l begun w)
       unfolding commit_over
@@ -354,8 +353,8 @@ module _ (P S C L M : ℕ) (k : Codec) (pos : 0 < P) where
       import_long t e = by_test U (importing s.block) _ _ (λ x. now) (λ x. by_test U (ltb M (s.count.0 * S + t)) _ _ (λ y. now) (λ y. restore_long s l _ _ refl refl))
 
       place_long : (o : ℕ) (bs m : List ℕ) (g : Growth) → U (place_chunk P S C L M k s l o bs m g)
-      place_long o bs m (NotGrown r) = now
-      place_long o bs m (Grown c) = restore_long _ _ _ _ refl refl
+      place_long o bs m (Err r) = now
+      place_long o bs m (Ok c) = restore_long _ _ _ _ refl refl
 
       chunk_long : (o : ℕ) (bs : List ℕ) → U (do_import_chunk P S C L M k s l o bs)
       unfolding do_import_chunk

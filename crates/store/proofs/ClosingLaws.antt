@@ -15,7 +15,7 @@ use Rattle.words.specs.Words.{Bytes}
 use Rattle.update.specs.ListLaws.{clash}
 use Rattle.update.specs.Buffers.{Buffers}
 use Rattle.store.specs.declared.State.{State}
-use Rattle.store.specs.declared.Answer.TheVariants.{Done, Refused}
+use Rattle.store.specs.Answers.{Done, Refused}
 use Rattle.store.specs.Codec.{Codec, sealed, stored}
 use Rattle.store.specs.Blocks.{importing, after_import_cancel}
 use Rattle.store.proofs.BlockLaws.{after_cancel, seal_importing}

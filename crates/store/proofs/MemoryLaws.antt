@@ -1,5 +1,5 @@
 -- Memory by its bytes: growth, pages written in place, the superblock.
-use Rattle.std.specs.Prelude.{◌≡◌, refl, ℕ, ◌+◌, ◌-◌, ◌*◌, ◌/◌, ◌%◌, ◌≤◌, ◌<◌, false, List, [], ◌∷◌, ltb, leb, eqb, length, get_or}
+use Rattle.std.specs.Prelude.{◌≡◌, refl, ℕ, ◌+◌, ◌-◌, ◌*◌, ◌/◌, ◌%◌, ◌≤◌, ◌<◌, false, List, [], ◌∷◌, ltb, leb, eqb, length, get_or, Ok, Err}
 use Rattle.std.proofs.Common.{sym, ap, ◌∙◌, subst, div-add-mod', le-div_iff_mul-le, mul-le-mul_right, le_trans, arith, ltb-true, ltb-false, leb-true, leb-false, eqb-true, lt-ltb}
 use Rattle.std.proofs.lemmas.Bool.{eqb-false}
 use Rattle.config.specs.Pages.{count, page_lo, page_hi, page_at, count_ge}
@@ -7,8 +7,7 @@ use Rattle.config.specs.declared.refusal.Refusal.TheVariants.{GrowFailed}
 use Rattle.memory.specs.Bytes.{zeros, overwrite}
 use Rattle.memory.specs.Laws.{split, length-overwrite, overwrite_lo, overwrite_in, overwrite_hi}
 use Rattle.memory.specs.Growth.{Outcome, grow_to, stable, grow_none, grow_more, grow_refused}
-use Rattle.memory.specs.declared.Growth.{Growth}
-use Rattle.memory.specs.declared.Growth.TheVariants.{Grown, Refused}
+use Rattle.memory.specs.Growth.{Growth}
 use Rattle.meta.specs.declared.superblock.Superblock.{Superblock}
 use Rattle.meta.specs.declared.ZeroExtent.{ZeroExtent}
 use Rattle.extents.specs.PlanLaws.{among}
@@ -28,8 +27,8 @@ module _ (S : ℕ) (pos : 0 < S) (c end : ℕ) (m : List ℕ) (held : c * S ≤ 
 
   -- memory grows, if it does, exactly when its ceiling reaches the end
   pub grow_cases : (Q : Growth → List ℕ → Type 0)
-      → ((r : ℕ) (m' : List ℕ) → Reaches S c end m r m' → count S end ≤ length m / S → Q (Grown (stable r)) m')
-      → (length m / S < count S end → Q (Refused (GrowFailed (stable c) (stable (count S end)))) m)
+      → ((r : ℕ) (m' : List ℕ) → Reaches S c end m r m' → count S end ≤ length m / S → Q (Ok (stable r)) m')
+      → (length m / S < count S end → Q (Err (GrowFailed (stable c) (stable (count S end)))) m)
       → Q (grow_to S c end m).growth (grow_to S c end m).mem
   grow_cases Q grown full = split (leb (count S end) c)
       (λ t. let le : count S end ≤ c = leb-true (count S end) c t in

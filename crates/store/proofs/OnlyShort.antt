@@ -1,5 +1,5 @@
 -- 35 comes of what is lent alone: a call that is lent enough answers something else.
-use Rattle.std.specs.Prelude.{◌≡◌, Bool, true, false, not, ◌&&◌, List, ltb, leb, take, drop}
+use Rattle.std.specs.Prelude.{◌≡◌, Bool, true, false, not, ◌&&◌, List, ltb, leb, take, drop, Ok, Err}
 use Prim.Native.Nat.{ℕ, ◌+◌, ◌*◌, ◌/◌}
 use Rattle.std.proofs.Common.{arith}
 use Rattle.std.proofs.Math.Bool.{cond}
@@ -8,8 +8,7 @@ use Rattle.std.proofs.Math.ListN.{length}
 use Rattle.config.specs.Pages.{count}
 use Rattle.config.specs.declared.refusal.Refusal.{Refusal}
 use Rattle.config.specs.Refusals.{numbers_of}
-use Rattle.memory.specs.declared.Growth.{Growth}
-use Rattle.memory.specs.declared.Growth.TheVariants.{Grown, Refused as NotGrown}
+use Rattle.memory.specs.Growth.{Growth}
 use Rattle.memory.specs.Growth.{Outcome, grow_to, required, pick}
 use Rattle.meta.specs.declared.ZeroExtent.{ZeroExtent}
 use Rattle.extents.specs.Plan.{too_many, kept, below, Answer as Planned}
@@ -35,8 +34,8 @@ abbrev T : Tried → Type 0
 T = RefusedBy Other
 
 abbrev G : Growth → Type 0
-G (Grown c) = Unit {0}
-G (NotGrown r) = Other r
+G (Ok c) = Unit {0}
+G (Err r) = Other r
 
 grown_or : (b : Bool) (x y : Outcome) → G x.growth → G y.growth → G (pick b x y).growth
 grown_or true x y f g = f
@@ -51,8 +50,8 @@ module _ (P S C L M : ℕ) (k : Codec) (s : State) (l : Lent) where
   U x = number x.answer ≡ 35 → ⊥
 
   publish_other : (u : Bool) (w : Over) (rs : List ZeroExtent) (m : List ℕ) (g : Growth) → G g → U (publish P S C L M k u s l w rs m g)
-  publish_other u w rs m (Grown c) h = λ e. omega (arith, e)
-  publish_other u w rs m (NotGrown r) h = h
+  publish_other u w rs m (Ok c) h = λ e. omega (arith, e)
+  publish_other u w rs m (Err r) h = h
 
   settle_other : (u : Bool) (w : Over) (x : Planned) → U (settle P S C L M k u s l w x)
   settle_other u w too_many = λ e. omega (arith, e)
@@ -99,8 +98,8 @@ module _ (P S C L M : ℕ) (k : Codec) (s : State) (l : Lent) where
 
   place_other : (o : ℕ) (bs m : List ℕ) (g : Growth) → G g → U (place_chunk P S C L M k s l o bs m g)
   unfolding restore
-  place_other o bs m (Grown c) h = λ e. omega (arith, e)
-  place_other o bs m (NotGrown r) h = h
+  place_other o bs m (Ok c) h = λ e. omega (arith, e)
+  place_other o bs m (Err r) h = h
 
   chunk_other : (o : ℕ) (bs : List ℕ) → U (do_import_chunk P S C L M k s l o bs)
   unfolding do_import_chunk

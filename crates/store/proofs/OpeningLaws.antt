@@ -1,5 +1,5 @@
 -- 01's opening by its ways out: an image that it accepts is in order, the fresh one included, and only a fresh one is stored by it.
-use Rattle.std.specs.Prelude.{◌≡◌, ℕ, ◌+◌, ◌*◌, ◌≤◌, ◌<◌, ◌||◌, List, [], eqb, length}
+use Rattle.std.specs.Prelude.{◌≡◌, ℕ, ◌+◌, ◌*◌, ◌≤◌, ◌<◌, ◌||◌, List, [], eqb, length, Ok, Err}
 use Rattle.std.proofs.Math.Path.{refl, ap}
 use Rattle.std.proofs.Common.{sym, ◌∙◌, mul-le-mul_right, pos_of_ne-zero, one-mul, arith}
 use Rattle.std.proofs.Math.Bool.{Bool, true, false}
@@ -10,14 +10,12 @@ use Rattle.config.specs.declared.refusal.Refusal.TheVariants.{ForeignStableMemor
 use Rattle.config.specs.Refusals.{numbers_of}
 use Rattle.config.specs.Pages.{count}
 use Rattle.memory.specs.Growth.{stable}
-use Rattle.memory.specs.declared.Growth.TheVariants.{Grown}
 use Rattle.meta.specs.declared.superblock.Superblock.{Superblock}
-use Rattle.meta_load.specs.declared.Loaded.{Loaded}
-use Rattle.meta_load.specs.declared.Loaded.TheVariants.{Block, Refused as NotLoaded}
+use Rattle.meta_load.specs.Load.{Loaded}
 use Rattle.words.specs.Words.{Bytes}
 use Rattle.meta.specs.Runs.{normalized_nil}
 use Rattle.update.specs.ListLaws.{clash}
-use Rattle.store.specs.declared.Answer.TheVariants.{Done}
+use Rattle.store.specs.Answers.{Done}
 use Rattle.store.specs.Codec.{Codec, sealed, stored}
 use Rattle.store.specs.Blocks.{importing}
 use Rattle.store.proofs.BlockLaws.{seal_importing}
@@ -59,11 +57,11 @@ module _ (P S C L M : ℕ) (k : Codec) (spos : 0 < S) (n : ℕ) (m : List ℕ) w
 
   -- 01's opening by its ways out: refused, a fresh image, or one that is there
   module _ (Q : Opened → Type 0) (no : (c : ℕ) → c ≡ n → (r : Refusal) → Q (not_opened P S C L M k c m r))
-      (made : n ≡ 0 → (r : ℕ) (g : List ℕ) → Reaches S 0 S m r g → Q (open_fresh P S C L M k m g (Grown (stable r))))
-      (found : (n ≡ 0 → ⊥) → n * S ≤ length m → (b : Superblock) → k.load m ≡ Block b → outside P S C L M k n b ≡ false → Q (there b)) where
+      (made : n ≡ 0 → (r : ℕ) (g : List ℕ) → Reaches S 0 S m r g → Q (open_fresh P S C L M k m g (Ok (stable r))))
+      (found : (n ≡ 0 → ⊥) → n * S ≤ length m → (b : Superblock) → k.load m ≡ Ok b → outside P S C L M k n b ≡ false → Q (there b)) where
     loaded_cases : (n ≡ 0 → ⊥) → n * S ≤ length m → (x : Loaded) → k.load m ≡ x → Q (open_loaded P S C L M k n m x)
-    loaded_cases some held (NotLoaded r) e = no n refl r
-    loaded_cases some held (Block b) e = by_test Q (outside P S C L M k n b) _ _ (λ t. no n refl ImageOutOfMemory) (λ f. found some held b e f)
+    loaded_cases some held (Err r) e = no n refl r
+    loaded_cases some held (Ok b) e = by_test Q (outside P S C L M k n b) _ _ (λ t. no n refl ImageOutOfMemory) (λ f. found some held b e f)
 
     pub image_cases : Q (open_image P S C L M k n m)
     unfolding open_image
@@ -116,7 +114,7 @@ module _ (P S C L M : ℕ) (k : Codec) (spos : 0 < S) (laws : Lawful S L M k) wh
       }
 
   module _ (n : ℕ) (m : List ℕ) (bytes : Bytes m) (most : length m ≤ M) (held : n * S ≤ length m) where
-    loaded_good : (b : Superblock) → S ≤ length m → k.load m ≡ Block b → outside P S C L M k n b ≡ false → Good S L M k n b m
+    loaded_good : (b : Superblock) → S ≤ length m → k.load m ≡ Ok b → outside P S C L M k n b ≡ false → Good S L M k n b m
     unfolding outside
     loaded_good b l e t =
         let q : LoadedAs L M k b m = laws.loads b m bytes l e in

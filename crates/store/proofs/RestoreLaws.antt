@@ -1,5 +1,5 @@
 -- A block stored anew, with the image's runs as they are: an image that was in order stays so.
-use Rattle.std.specs.Prelude.{◌≡◌, ℕ, ◌+◌, ◌*◌, ◌≤◌, true, List, length}
+use Rattle.std.specs.Prelude.{◌≡◌, ℕ, ◌≤◌, true, List, length}
 use Rattle.std.proofs.Common.{sym, ap, ◌∙◌, arith}
 use Rattle.meta.specs.declared.superblock.Superblock.{Superblock}
 use Rattle.meta.specs.declared.ZeroExtent.{ZeroExtent}
@@ -7,7 +7,6 @@ use Rattle.update.specs.ListLaws.{clash}
 use Rattle.store.specs.Codec.{Codec, sealed, stored}
 use Rattle.store.specs.Blocks.{importing, after_import_cancel}
 use Rattle.store.proofs.BlockLaws.{cancel_keeps, after_cancel, seal_importing}
-use Rattle.store.specs.Blocks.{Keeps}
 use Rattle.store.specs.Store.{runs_of}
 use Rattle.store.specs.Lawful.{Fits, Lawful, Good}
 use Rattle.store.proofs.MemoryLaws.{stored-length}

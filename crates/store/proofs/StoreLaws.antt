@@ -1,6 +1,6 @@
 -- Laws of the calls that hold for any state and any bytes: 35 changes nothing, memory keeps its length, a refused commit and a refused direct call leave memory as
 -- it was and zeros in the buffers, an accepted commit leaves the file that its update showed, and a read is full where it is to be.
-use Rattle.std.specs.Prelude.{◌≡◌, Bool, true, false, not, ◌&&◌, ltb, leb, take, drop, get_or}
+use Rattle.std.specs.Prelude.{◌≡◌, Bool, true, false, not, ◌&&◌, ltb, leb, take, drop, get_or, Ok, Err}
 use Rattle.std.proofs.Math.Path.{refl, ap}
 use Rattle.std.proofs.Common.{◌∙◌, arith, le-leb, ne_eqb, eqb-true}
 use Prim.Native.Nat.{ℕ, ◌+◌, ◌-◌, ◌*◌, ◌/◌, ◌≤◌, ◌<◌, max, min}
@@ -14,8 +14,7 @@ use Rattle.config.specs.declared.refusal.Refusal.TheVariants.{BufferTooShort}
 use Rattle.memory.specs.Bytes.{zeros}
 use Rattle.memory.specs.Laws.{split, length-overwrite}
 use Rattle.memory.specs.Growth.{grow_to, required as requiredPages, stable}
-use Rattle.memory.specs.declared.Growth.{Growth}
-use Rattle.memory.specs.declared.Growth.TheVariants.{Grown, Refused as NotGrown}
+use Rattle.memory.specs.Growth.{Growth}
 use Rattle.meta.specs.declared.superblock.Superblock.{Superblock}
 use Rattle.meta.specs.declared.ZeroExtent.{ZeroExtent}
 use Rattle.extents.specs.Plan.{Answer as Planned, too_many, kept, below, plan}
@@ -27,11 +26,11 @@ use Rattle.update.specs.Buffers.{frame_count, entry_count, wiped, view}
 use Rattle.update.specs.Changes.{Like}
 use Rattle.update.specs.Refused.{Weak}
 use Rattle.store.specs.declared.State.{State}
-use Rattle.store.specs.declared.Answer.{Answer}
-use Rattle.store.specs.declared.Answer.TheVariants.{Done, Refused}
+use Rattle.store.specs.Answers.{Answer}
+use Rattle.store.specs.Answers.{Done, Refused}
 use Rattle.store.specs.Codec.{Codec}
 use Rattle.store.specs.Blocks.{importing, refreshing}
-use Rattle.store.specs.Calls.{Call, begin, read, write, truncate, commit, rollback, file_size, import_begin, import_chunk, import_finish, import_cancel, export, checksum, refresh, refresh_step, Lent, Out, out, number, uses, lent_bytes, Mode, idle, update, mode_of, short}
+use Rattle.store.specs.Calls.{Call, begin, read, write, truncate, commit, rollback, file_size, import_begin, import_chunk, import_finish, import_cancel, export, checksum, refresh, refresh_step, Lent, Out, out, uses, lent_bytes, Mode, idle, update, mode_of, short}
 use Rattle.store.specs.Plan.{required}
 use Rattle.store.specs.Store.{budget_of, refuse, ended, image, runs_of, over, publish, settle, unchanged, planned_runs, commit_over, direct, change, do_begin, do_read, full, do_commit, do_rollback, restore, do_import_begin, place_chunk, do_import_chunk, do_import_finish, do_import_cancel, do_export, do_checksum, do_refresh, refresh_from, do_refresh_step, alone, act, swept, store}
 use Rattle.store.specs.Lawful.{Lawful, Good}
@@ -94,7 +93,7 @@ module _ (P S C L M : ℕ) (k : Codec) where
       (r : ℕ) (grown : List ℕ)
       (reaches : Reaches S s.count.0 (required P s.block.db_base_offset (below (count P v.size) (page_numbers v.dirty)) (s.block.db_base_offset + v.size)) l.mem r grown) where
     abbrev done : Out
-    done = publish P S C L M k u s l v rs grown (Grown (stable r))
+    done = publish P S C L M k u s l v rs grown (Ok (stable r))
 
     pub commit_reads : (d : List ℕ) → Like P (image P S C L M k s.block l.mem) s.block.db_size v (length d) d
         → (o : ℕ) → o < length d → image P S C L M k done.state.block done.lent.mem o ≡ get_or d o 0
@@ -108,8 +107,8 @@ module _ (P S C L M : ℕ) (k : Codec) where
   -- ## The end of an update or of a direct call
 
   publish_ends : (u : Bool) (s : State) (l : Lent) (w : Over) (rs : List ZeroExtent) (m : List ℕ) (g : Growth) → Ends l (publish P S C L M k u s l w rs m g)
-  publish_ends u s l w rs m (NotGrown r) = record { over = refl; zeroed = refl; kept = λ h. refl }
-  publish_ends u s l w rs m (Grown c) = record { over = refl; zeroed = refl; kept = λ h. absurd (h refl) }
+  publish_ends u s l w rs m (Err r) = record { over = refl; zeroed = refl; kept = λ h. refl }
+  publish_ends u s l w rs m (Ok c) = record { over = refl; zeroed = refl; kept = λ h. absurd (h refl) }
 
   settle_ends : (u : Bool) (s : State) (l : Lent) (w : Over) (x : Planned) → Ends l (settle P S C L M k u s l w x)
   settle_ends u s l w too_many = record { over = refl; zeroed = refl; kept = λ h. refl }
@@ -135,8 +134,8 @@ module _ (P S C L M : ℕ) (k : Codec) where
   Long l x = length x.lent.mem ≡ length l.mem
 
   publish_long : (u : Bool) (s : State) (l : Lent) (w : Over) (rs : List ZeroExtent) (m : List ℕ) (g : Growth) → length m ≡ length l.mem → Long l (publish P S C L M k u s l w rs m g)
-  publish_long u s l w rs m (NotGrown r) e = refl
-  publish_long u s l w rs m (Grown c) e = stored_long k _ rs _ ∙ pages-length P S C L M k s.block.db_base_offset (count P w.size) w.dirty m ∙ e
+  publish_long u s l w rs m (Err r) e = refl
+  publish_long u s l w rs m (Ok c) e = stored_long k _ rs _ ∙ pages-length P S C L M k s.block.db_base_offset (count P w.size) w.dirty m ∙ e
 
   settle_long : (u : Bool) (s : State) (l : Lent) (w : Over) (x : Planned) → Long l (settle P S C L M k u s l w x)
   settle_long u s l w too_many = refl
@@ -162,8 +161,8 @@ module _ (P S C L M : ℕ) (k : Codec) where
   restore_long s l b a = stored_long k b (runs_of P S C L M k b l.mem) l.mem
 
   place_long : (s : State) (l : Lent) (o : ℕ) (bs m : List ℕ) (g : Growth) → length m ≡ length l.mem → Long l (place_chunk P S C L M k s l o bs m g)
-  place_long s l o bs m (NotGrown r) e = refl
-  place_long s l o bs m (Grown c) e = restore_long _ _ _ Done ∙ length-overwrite (s.block.import_base_offset + o) bs m ∙ e
+  place_long s l o bs m (Err r) e = refl
+  place_long s l o bs m (Ok c) e = restore_long _ _ _ Done ∙ length-overwrite (s.block.import_base_offset + o) bs m ∙ e
 
   begin_long : (s : State) (l : Lent) (t e : ℕ) → Long l (do_import_begin P S C L M k s l t e)
   unfolding do_import_begin

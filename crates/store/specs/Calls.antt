@@ -5,8 +5,8 @@ use Rattle.memory.specs.Bytes.{zeros}
 use Rattle.update.specs.declared.Overlay.{Overlay}
 use Rattle.update.specs.Buffers.{Buffers, frame_count, short_buffers}
 use Rattle.store.specs.declared.State.{State}
-use Rattle.store.specs.declared.Answer.{Answer}
-use Rattle.store.specs.declared.Answer.TheVariants.{Done, Size, Read, Exported, Checksum, Refreshed, Refused}
+use Rattle.store.specs.Answers.{Answer}
+use Rattle.store.specs.Answers.{Done, Size, Read, Exported, Checksum, Refreshed, Refused}
 
 pub data Call : Type 0 where
   -- with a budget or not, of so many pages and bytes

@@ -4,7 +4,7 @@ use Rattle.std.specs.Prelude.{◌≡◌, refl, ℕ, List}
 use Rattle.memory.specs.Bytes.{overwrite}
 use Rattle.meta.specs.declared.superblock.Superblock.{Superblock}
 use Rattle.meta.specs.declared.ZeroExtent.{ZeroExtent}
-use Rattle.meta_load.specs.declared.Loaded.{Loaded}
+use Rattle.meta_load.specs.Load.{Loaded}
 use Rattle.meta.specs.Runs.{numbers_of}
 use Rattle.fnv.specs.Fnv.{basis, fold}
 use Rattle.meta.specs.Block.{prefix, sealed_by, checksum_of, seal, store_in, decode as decodeBlock, fresh as freshBlock}

@@ -2,7 +2,7 @@
 use Rattle.std.specs.Prelude.{◌≡◌, ℕ, ◌+◌, ◌*◌, ◌≤◌, ◌<◌, true, false, List, length, get_or}
 use Rattle.meta.specs.declared.superblock.Superblock.{Superblock}
 use Rattle.update.specs.Buffers.{Buffers, wiped}
-use Rattle.store.specs.declared.Answer.TheVariants.{Done}
+use Rattle.store.specs.Answers.{Done}
 use Rattle.store.specs.Blocks.{importing, Keeps}
 use Rattle.store.specs.Calls.{Lent, Out, number}
 use Rattle.store.specs.Opening.{Opened}

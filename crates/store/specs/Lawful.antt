@@ -1,8 +1,7 @@
 -- What a codec must do, and when the image in a memory is in order.
-use Rattle.std.specs.Prelude.{◌≡◌, ℕ, ◌+◌, ◌*◌, ◌≤◌, ◌<◌, true, false, List, length, get_or}
+use Rattle.std.specs.Prelude.{◌≡◌, ℕ, ◌+◌, ◌*◌, ◌≤◌, ◌<◌, true, false, List, length, get_or, Ok}
 use Rattle.meta.specs.declared.superblock.Superblock.{Superblock}
 use Rattle.meta.specs.declared.ZeroExtent.{ZeroExtent}
-use Rattle.meta_load.specs.declared.Loaded.TheVariants.{Block}
 use Rattle.words.specs.Words.{Bytes}
 use Rattle.meta.specs.Runs.{normalized}
 use Rattle.update.specs.PageLaws.{EndsBy}
@@ -38,7 +37,7 @@ pub record Lawful (S L M : ℕ) (k : Codec) : Type 0 where
   pub runs_is : (b : Superblock) (rs : List ZeroExtent) (m : List ℕ) → Fits L M b rs → S ≤ length m → k.runs_in (length rs) (stored k b rs m) ≡ rs
   pub near_block : (a b : List ℕ) → Alike S a b → k.decode a ≡ k.decode b
   pub near_runs : (n : ℕ) (a b : List ℕ) → S ≤ length a → S ≤ length b → Alike S a b → k.runs_in n a ≡ k.runs_in n b
-  pub loads : (b : Superblock) (m : List ℕ) → Bytes m → S ≤ length m → k.load m ≡ Block b → LoadedAs L M k b m
+  pub loads : (b : Superblock) (m : List ℕ) → Bytes m → S ≤ length m → k.load m ≡ Ok b → LoadedAs L M k b m
   -- a fresh image is empty and lies behind the first stable page
   pub fresh_size : k.fresh.db_size ≡ 0
   pub fresh_base : k.fresh.db_base_offset ≡ S

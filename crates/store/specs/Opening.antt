@@ -1,19 +1,17 @@
 -- Opening: the current count and the memory are given; 35, then 1 to 3, then 4; or a fresh image at count 0. Then an import that is open is closed.
-use Rattle.std.specs.Prelude.{◌≡◌, ℕ, ◌+◌, ◌*◌, Bool, true, false, ◌&&◌, ◌||◌, List, [], ltb, eqb, length}
+use Rattle.std.specs.Prelude.{◌≡◌, ℕ, ◌+◌, ◌*◌, Bool, true, false, ◌&&◌, ◌||◌, List, [], ltb, eqb, length, Ok, Err}
 use Rattle.std.proofs.Math.Path.{refl, ap}
 use Rattle.std.proofs.Math.Bool.{cond}
 use Rattle.config.specs.declared.refusal.Refusal.{Refusal}
 use Rattle.config.specs.declared.refusal.Refusal.TheVariants.{ImageOutOfMemory, BufferTooShort}
 use Rattle.memory.specs.Growth.{grow_to}
-use Rattle.memory.specs.declared.Growth.{Growth}
-use Rattle.memory.specs.declared.Growth.TheVariants.{Grown, Refused as NotGrown}
+use Rattle.memory.specs.Growth.{Growth}
 use Rattle.meta.specs.declared.superblock.Superblock.{Superblock}
-use Rattle.meta_load.specs.declared.Loaded.{Loaded}
-use Rattle.meta_load.specs.declared.Loaded.TheVariants.{Block, Refused as NotLoaded}
+use Rattle.meta_load.specs.Load.{Loaded}
 use Rattle.meta.specs.Block.{of_fields}
 use Rattle.store.specs.declared.State.{State}
-use Rattle.store.specs.declared.Answer.{Answer}
-use Rattle.store.specs.declared.Answer.TheVariants.{Done, Refused}
+use Rattle.store.specs.Answers.{Answer}
+use Rattle.store.specs.Answers.{Done, Refused}
 use Rattle.store.specs.Codec.{Codec, sealed, stored}
 use Rattle.store.specs.Blocks.{importing}
 use Rattle.store.specs.Calls.{import_cancel, Lent, Out}
@@ -53,12 +51,12 @@ module _ (P S C L M : ℕ) (k : Codec) where
 
   -- 01: "at count 0 it stores a fresh superblock, or answers 32 if the ceiling is 0"
   abbrev pub open_fresh : List ℕ → List ℕ → Growth → Opened
-  open_fresh m grown (NotGrown r) = not_opened 0 m r
-  open_fresh m grown (Grown c) = record { state = resting c.0 (sealed k k.fresh []) (no_overlay P S C L M k); answer = Done; mem = stored k k.fresh [] grown }
+  open_fresh m grown (Err r) = not_opened 0 m r
+  open_fresh m grown (Ok c) = record { state = resting c.0 (sealed k k.fresh []) (no_overlay P S C L M k); answer = Done; mem = stored k k.fresh [] grown }
 
   abbrev pub open_loaded : ℕ → List ℕ → Loaded → Opened
-  open_loaded n m (NotLoaded r) = not_opened n m r
-  open_loaded n m (Block b) = cond (outside n b) (not_opened n m ImageOutOfMemory) record { state = resting n b (no_overlay P S C L M k); answer = Done; mem = m }
+  open_loaded n m (Err r) = not_opened n m r
+  open_loaded n m (Ok b) = cond (outside n b) (not_opened n m ImageOutOfMemory) record { state = resting n b (no_overlay P S C L M k); answer = Done; mem = m }
 
   -- 01's opening. "Opening is given that count"
   unfoldable pub open_image : ℕ → List ℕ → Opened

@@ -1,5 +1,5 @@
 -- 01's superblock is a lawful codec: by meta's laws.
-use Rattle.std.specs.Prelude.{◌≡◌, refl, Bool, true, false, get_or, drop, leb, eqb}
+use Rattle.std.specs.Prelude.{◌≡◌, refl, Bool, true, false, get_or, drop, leb, eqb, Ok, Err}
 use Rattle.std.proofs.Math.Path.{sym}
 use Rattle.std.proofs.Common.{ap, ◌∙◌, subst, leb-true, arith, length-take, drop-drop}
 use Prim.Native.Nat.{ℕ, zero, suc, ◌+◌, ◌-◌, ◌*◌, ◌/◌, ◌≤◌, ◌<◌, min}
@@ -11,8 +11,7 @@ use Rattle.config.specs.declared.refusal.Refusal.TheVariants.{ForeignStableMemor
 use Rattle.memory.specs.Laws.{length-overwrite}
 use Rattle.meta.specs.declared.superblock.Superblock.{Superblock}
 use Rattle.meta.specs.declared.ZeroExtent.{ZeroExtent}
-use Rattle.meta_load.specs.declared.Loaded.{Loaded}
-use Rattle.meta_load.specs.declared.Loaded.TheVariants.{Block, Refused}
+use Rattle.meta_load.specs.Load.{Loaded}
 use Rattle.words.specs.Words.{word_at, words_in, word_at-drop, word_at_alike, word_at_lt, Bytes, bytes_drop}
 use Rattle.meta.specs.Runs.{run, runs_of, numbers_of, runs_in, runs_in-alike, normalized}
 use Rattle.meta.specs.Block.{magic, decode, encode, encoded_len, prefix, seal, store_in, fields_of, fields_in, field_offset, offset_is, fresh}
@@ -88,7 +87,7 @@ module _ (b : Superblock) (rs : List ZeroExtent) (mem : List ℕ) (fit : Fits 10
 
 -- ## The tests at opening
 
-pick_block : (t : Bool) (a : Loaded) (r : Refusal) (b : Superblock) → pick t a (Refused r) ≡ Block b → (t ≡ true) × (a ≡ Block b)
+pick_block : (t : Bool) (a : Loaded) (r : Refusal) (b : Superblock) → pick t a (Err r) ≡ Ok b → (t ≡ true) × (a ≡ Ok b)
 pick_block true a r b e = (refl, e)
 pick_block false a r b e = let z : ◌≡◌ {A = ℕ} 0 1 = cc in absurd (omega arith)
 
@@ -97,25 +96,25 @@ record Judged (b x : Superblock) (t : Bool) : Type 0 where
   few : b.zero_extent_count ≤ 1024
   sorted : t ≡ true
 
-judged : (b : Superblock) (s : ℕ) (t : Bool) (x : Superblock) → judge b s t ≡ Block x → Judged b x t
+judged : (b : Superblock) (s : ℕ) (t : Bool) (x : Superblock) → judge b s t ≡ Ok x → Judged b x t
 unfolding judge
 judged b s t x e =
-    let bad : Loaded = Refused MetaChecksumMismatch in
-    let a6 : Loaded = pick t (Block b) bad in
+    let bad : Loaded = Err MetaChecksumMismatch in
+    let a6 : Loaded = pick t (Ok b) bad in
     let a5 : Loaded = pick (eqb b.meta_checksum s) a6 bad in
     let a4 : Loaded = pick (leb b.zero_extent_count 1024) a5 bad in
-    let a3 : Loaded = pick (eqb b.layout_version 8) a4 (Refused (UnsupportedLayoutVersion b.layout_version)) in
-    let a2 : Loaded = pick (eqb b.version 8) a3 (Refused (UnsupportedLayoutVersion b.version)) in
-    let e1 : a2 ≡ Block x = (pick_block (eqb b.magic magic) a2 ForeignStableMemoryImage x e).1 in
-    let e2 : a3 ≡ Block x = (pick_block (eqb b.version 8) a3 (UnsupportedLayoutVersion b.version) x e1).1 in
-    let e3 : a4 ≡ Block x = (pick_block (eqb b.layout_version 8) a4 (UnsupportedLayoutVersion b.layout_version) x e2).1 in
-    let e4 : (leb b.zero_extent_count 1024 ≡ true) × (a5 ≡ Block x) = pick_block (leb b.zero_extent_count 1024) a5 MetaChecksumMismatch x e3 in
-    let e5 : a6 ≡ Block x = (pick_block (eqb b.meta_checksum s) a6 MetaChecksumMismatch x e4.1).1 in
-    let e6 : (t ≡ true) × (Block b ≡ Block x) = pick_block t (Block b) MetaChecksumMismatch x e5 in
-    let q : Block b ≡ Block x = e6.1 in
+    let a3 : Loaded = pick (eqb b.layout_version 8) a4 (Err (UnsupportedLayoutVersion b.layout_version)) in
+    let a2 : Loaded = pick (eqb b.version 8) a3 (Err (UnsupportedLayoutVersion b.version)) in
+    let e1 : a2 ≡ Ok x = (pick_block (eqb b.magic magic) a2 ForeignStableMemoryImage x e).1 in
+    let e2 : a3 ≡ Ok x = (pick_block (eqb b.version 8) a3 (UnsupportedLayoutVersion b.version) x e1).1 in
+    let e3 : a4 ≡ Ok x = (pick_block (eqb b.layout_version 8) a4 (UnsupportedLayoutVersion b.layout_version) x e2).1 in
+    let e4 : (leb b.zero_extent_count 1024 ≡ true) × (a5 ≡ Ok x) = pick_block (leb b.zero_extent_count 1024) a5 MetaChecksumMismatch x e3 in
+    let e5 : a6 ≡ Ok x = (pick_block (eqb b.meta_checksum s) a6 MetaChecksumMismatch x e4.1).1 in
+    let e6 : (t ≡ true) × (Ok b ≡ Ok x) = pick_block t (Ok b) MetaChecksumMismatch x e5 in
+    let q : Ok b ≡ Ok x = e6.1 in
     record { is = cc; few = leb-true b.zero_extent_count 1024 e4.0; sorted = e6.0 }
 
-loaded : (b : Superblock) (m : List ℕ) → Bytes m → 65536 ≤ length m → load m ≡ Block b → LoadedAs 1024 18446744073709551615 real_codec b m
+loaded : (b : Superblock) (m : List ℕ) → Bytes m → 65536 ≤ length m → load m ≡ Ok b → LoadedAs 1024 18446744073709551615 real_codec b m
 unfolding load real_codec block_runs
 loaded b m bytes l e =
     let j : Judged (decode m) b (normalized (block_runs m)) = judged (decode m) _ (normalized (block_runs m)) b e in

@@ -1,6 +1,6 @@
 -- A small codec: the calls can be run by computation with it, at pages of 2 bytes and stable pages of 24. A field of the superblock, or a number
 -- of a run, takes one element of memory; at most 3 runs; numbers up to 1,000.
-use Rattle.std.specs.Prelude.{◌≡◌, refl, Bool, true, false, List, [], ◌∷◌, ◌++◌, leb, eqb, take, drop}
+use Rattle.std.specs.Prelude.{◌≡◌, refl, Bool, true, false, List, [], ◌∷◌, ◌++◌, leb, eqb, take, drop, Ok, Err}
 use Rattle.std.proofs.Common.{sym, ap, ◌∙◌, append_assoc, length-append, length-drop, get_or-drop, leb-true}
 use Prim.Native.Nat.{ℕ, zero, suc, ◌+◌, ◌*◌, ◌%◌, ◌≤◌, min}
 use native.Mathlib.Omega.{arith}
@@ -10,8 +10,7 @@ use Rattle.config.specs.declared.refusal.Refusal.TheVariants.{MetaChecksumMismat
 use Rattle.memory.specs.Laws.{overwrite_mid}
 use Rattle.meta.specs.declared.superblock.Superblock.{Superblock}
 use Rattle.meta.specs.declared.ZeroExtent.{ZeroExtent}
-use Rattle.meta_load.specs.declared.Loaded.{Loaded}
-use Rattle.meta_load.specs.declared.Loaded.TheVariants.{Block, Refused}
+use Rattle.meta_load.specs.Load.{Loaded}
 use Rattle.words.specs.Words.{Bytes}
 use Rattle.meta.specs.Runs.{runs_of, numbers_of, normalized}
 use Rattle.meta.specs.Block.{magic, fields_of, other_fields, of_fields, sealed_by}
@@ -43,8 +42,8 @@ unfoldable pub small_load : List ℕ → Loaded
 small_load m =
     let b : Superblock = small_decode m in
     let rs : List ZeroExtent = small_runs b.zero_extent_count m in
-    let bad : Loaded = Refused MetaChecksumMismatch in
-    pick (leb b.zero_extent_count 3) (pick (eqb b.meta_checksum (small_sum b rs)) (pick (normalized rs) (Block b) bad) bad) bad
+    let bad : Loaded = Err MetaChecksumMismatch in
+    pick (leb b.zero_extent_count 3) (pick (eqb b.meta_checksum (small_sum b rs)) (pick (normalized rs) (Ok b) bad) bad) bad
 
 -- the database of a new image follows the first stable page
 unfoldable pub small_fresh : Superblock
@@ -100,22 +99,22 @@ ends_in n w b = runs_ends n w b
 bytes_drop : (k : ℕ) (l : List ℕ) → Bytes l → Bytes (drop k l)
 bytes_drop k l b i = rw (get_or-drop k l i 0) (b (k + i))
 
-pick_block : (t : Bool) (a : Loaded) (r : Refusal) (b : Superblock) → pick t a (Refused r) ≡ Block b → (t ≡ true) × (a ≡ Block b)
+pick_block : (t : Bool) (a : Loaded) (r : Refusal) (b : Superblock) → pick t a (Err r) ≡ Ok b → (t ≡ true) × (a ≡ Ok b)
 pick_block true a r b e = (refl, e)
 pick_block false a r b e = let z : ◌≡◌ {A = ℕ} 0 1 = cc in absurd (omega arith)
 
-small_loads : (b : Superblock) (m : List ℕ) → Bytes m → 24 ≤ length m → small_load m ≡ Block b → LoadedAs 3 1000 small_codec b m
+small_loads : (b : Superblock) (m : List ℕ) → Bytes m → 24 ≤ length m → small_load m ≡ Ok b → LoadedAs 3 1000 small_codec b m
 unfolding small_load small_codec small_runs
 small_loads b m bytes long e =
     let x : Superblock = small_decode m in
     let rs : List ZeroExtent = small_runs x.zero_extent_count m in
-    let bad : Loaded = Refused MetaChecksumMismatch in
-    let a3 : Loaded = pick (normalized rs) (Block x) bad in
+    let bad : Loaded = Err MetaChecksumMismatch in
+    let a3 : Loaded = pick (normalized rs) (Ok x) bad in
     let a2 : Loaded = pick (eqb x.meta_checksum (small_sum x rs)) a3 bad in
-    let e1 : (leb x.zero_extent_count 3 ≡ true) × (a2 ≡ Block b) = pick_block (leb x.zero_extent_count 3) a2 MetaChecksumMismatch b e in
-    let e2 : a3 ≡ Block b = (pick_block (eqb x.meta_checksum (small_sum x rs)) a3 MetaChecksumMismatch b e1.1).1 in
-    let e3 : (normalized rs ≡ true) × (Block x ≡ Block b) = pick_block (normalized rs) (Block x) MetaChecksumMismatch b e2 in
-    let q : Block x ≡ Block b = e3.1 in
+    let e1 : (leb x.zero_extent_count 3 ≡ true) × (a2 ≡ Ok b) = pick_block (leb x.zero_extent_count 3) a2 MetaChecksumMismatch b e in
+    let e2 : a3 ≡ Ok b = (pick_block (eqb x.meta_checksum (small_sum x rs)) a3 MetaChecksumMismatch b e1.1).1 in
+    let e3 : (normalized rs ≡ true) × (Ok x ≡ Ok b) = pick_block (normalized rs) (Ok x) MetaChecksumMismatch b e2 in
+    let q : Ok x ≡ Ok b = e3.1 in
     let is : x ≡ b = cc in
     let few : x.zero_extent_count ≤ 3 = leb-true x.zero_extent_count 3 e1.0 in
     rw (← is) (record {

@@ -1,13 +1,12 @@
 -- Each call of the store, for any state and any bytes: the answer, the state, memory and every lent slice at the end. 35 first, then 01's tests in
 -- 01's order, then the effects in the source's order.
-use Rattle.std.specs.Prelude.{ℕ, ◌+◌, ◌-◌, ◌*◌, max, min, Bool, true, false, not, cond, ◌&&◌, ◌||◌, List, [], ◌∷◌, ltb, leb, eqb, length, take, drop}
+use Rattle.std.specs.Prelude.{ℕ, ◌+◌, ◌-◌, ◌*◌, max, min, Bool, true, false, not, cond, ◌&&◌, ◌||◌, List, [], ◌∷◌, ltb, leb, eqb, length, take, drop, Ok, Err}
 use Rattle.config.specs.Pages.{count}
 use Rattle.config.specs.declared.refusal.Refusal.{Refusal}
 use Rattle.config.specs.declared.refusal.Refusal.TheVariants.{ImportAlreadyStarted, ImportNotStarted, UpdateInProgress, UpdateBegunTwice, OffsetOverflow, ImportOutOfOrder, ImportOutOfBounds, ImportIncomplete, ChecksumMismatch, ChecksumRefreshChunkEmpty, ZeroExtentLimitExceeded, BufferTooShort}
 use Rattle.memory.specs.Bytes.{overwrite}
 use Rattle.memory.specs.Growth.{grow_to, stable}
-use Rattle.memory.specs.declared.Growth.{Growth}
-use Rattle.memory.specs.declared.Growth.TheVariants.{Grown, Refused as NotGrown}
+use Rattle.memory.specs.Growth.{Growth}
 use Rattle.meta.specs.declared.superblock.Superblock.{Superblock}
 use Rattle.meta.specs.declared.ZeroExtent.{ZeroExtent}
 use Rattle.extents.specs.Plan.{too_many, kept, below, Answer as Planned}
@@ -19,8 +18,8 @@ use Rattle.update.specs.Image.{image_byte}
 use Rattle.update.specs.Update.{Over, fresh, read_over, read_bytes, Tried, accepted, refused, left, try_write, try_truncate, truncate_reach}
 use Rattle.update.specs.Buffers.{frame_count, entry_count, wiped, view, overlay_of, put_back, dirty_page}
 use Rattle.store.specs.declared.State.{State}
-use Rattle.store.specs.declared.Answer.{Answer}
-use Rattle.store.specs.declared.Answer.TheVariants.{Done, Size, Read, Exported, Checksum, Refreshed, Refused}
+use Rattle.store.specs.Answers.{Answer}
+use Rattle.store.specs.Answers.{Done, Size, Read, Exported, Checksum, Refreshed, Refused}
 use Rattle.store.specs.Codec.{Codec, sealed, stored}
 use Rattle.store.specs.Blocks.{importing, refreshing, after_commit, after_import_begin, after_import_chunk, after_import_cancel, after_import_finish, after_refresh, after_refresh_step}
 use Rattle.store.specs.Calls.{Call, begin, read, write, truncate, commit, rollback, file_size, import_begin, import_chunk, import_finish, import_cancel, export, checksum, refresh, refresh_step, Lent, Out, out, uses, lent_bytes, Mode, idle, update, mode_of, short, cleared, with_mem, with_buffers}
@@ -84,8 +83,8 @@ module _ (P S C L M : ℕ) (k : Codec) where
 
   -- 01: "Last, memory must reach the largest of them. Then those pages are written in place, then the superblock"
   abbrev pub publish : Bool → State → Lent → Over → List ZeroExtent → List ℕ → Growth → Out
-  publish u s l w rs m (NotGrown r) = over s l (Refused r)
-  publish u s l w rs m (Grown c) =
+  publish u s l w rs m (Err r) = over s l (Refused r)
+  publish u s l w rs m (Ok c) =
       let b : Superblock = after_commit P M u w.size (length rs) s.block in
       out (ended c.0 (sealed k b rs))
       (with_mem (stored k b rs (write_pages s.block.db_base_offset (count P w.size) w.dirty m)) (with_buffers (wiped l.bufs) l))
@@ -175,8 +174,8 @@ module _ (P S C L M : ℕ) (k : Codec) where
 
   -- memory grew, and the chunk goes to its place; 32 leaves all as it was
   abbrev pub place_chunk : State → Lent → ℕ → List ℕ → List ℕ → Growth → Out
-  place_chunk s l o bs m (NotGrown r) = out s l (Refused r) []
-  place_chunk s l o bs m (Grown c) =
+  place_chunk s l o bs m (Err r) = out s l (Refused r) []
+  place_chunk s l o bs m (Ok c) =
       restore (onward s c.0 s.block) (with_mem (overwrite (s.block.import_base_offset + o) bs m) l) (after_import_chunk (o + length bs) s.block) Done
 
   -- 01: "A chunk of an import tests 12, 11, 21, 20, 22, 32". A sum of base and offset above all numbers, which no image accepted at opening has, is

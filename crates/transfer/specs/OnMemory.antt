@@ -2,7 +2,7 @@
 use Rattle.std.specs.Prelude.{◌≡◌, ℕ, List}
 use Rattle.update.specs.Buffers.{Buffers}
 use Rattle.store.specs.declared.State.{State}
-use Rattle.store.specs.declared.Answer.{Answer}
+use Rattle.store.specs.Answers.{Answer}
 use Rattle.store.specs.Codec.{real_codec}
 use Rattle.store.specs.Calls.{Call, Lent, out}
 use Rattle.store.specs.Store.{store}

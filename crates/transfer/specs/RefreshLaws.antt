@@ -1,5 +1,5 @@
 -- A chunk in its place, and a step of a refresh: each way out, and a refresh that starts anew.
-use Rattle.std.specs.Prelude.{◌≡◌, refl, ℕ, ◌+◌, ◌-◌, ◌*◌, ◌/◌, ◌%◌, ◌≤◌, max, min, Bool, ◌&&◌, List, [], leb, length, take, drop}
+use Rattle.std.specs.Prelude.{◌≡◌, refl, ℕ, ◌+◌, ◌-◌, ◌*◌, ◌/◌, ◌%◌, ◌≤◌, max, min, Bool, ◌&&◌, List, [], leb, length, take, drop, Ok, Err}
 use Rattle.std.proofs.Math.Path.{sym, ap}
 use Rattle.std.proofs.Common.{◌∙◌, arith, true≢false, length-drop, drop_of_length-le, take_all, eq-eqb, ne_eqb}
 use Rattle.std.proofs.Math.Bool.{true, false, cond}
@@ -9,15 +9,14 @@ use Rattle.config.specs.declared.refusal.Refusal.{Refusal}
 use Rattle.config.specs.declared.refusal.Refusal.TheVariants.{GrowFailed}
 use Rattle.memory.specs.Bytes.{zeros, overwrite}
 use Rattle.memory.specs.Growth.{grow_to, required, stable, pick, outcome, Outcome}
-use Rattle.memory.specs.declared.Growth.{Growth}
-use Rattle.memory.specs.declared.Growth.TheVariants.{Grown, Refused as NotGrown}
+use Rattle.memory.specs.Growth.{Growth}
 use Rattle.meta.specs.declared.superblock.Superblock.{Superblock}
 use Rattle.fnv.specs.Fnv.{basis, fold}
 use Rattle.image.specs.Reading.{image_of}
 use Rattle.update.specs.Lists.{tabulate_from}
 use Rattle.update.specs.Image.{image_in}
 use Rattle.store.specs.declared.State.{State}
-use Rattle.store.specs.declared.Answer.TheVariants.{Done, Refreshed, Refused}
+use Rattle.store.specs.Answers.{Done, Refreshed, Refused}
 use Rattle.store.specs.Blocks.{importing, stale, refreshing, marks, set_flags, set_refresh, set_numbers, after_import_chunk, after_refresh, after_refresh_step}
 use Rattle.store.proofs.BlockLaws.{marks_importing, marks_stale, marks_refreshing, marks_over}
 use Rattle.store.specs.Store.{onward}
@@ -34,17 +33,17 @@ bytes_end at k n m e h = take_all k (drop at m) (omega (arith, length-drop at m)
 -- ## A chunk
 
 abbrev is_grown : Growth → Bool
-is_grown (Grown c) = true
-is_grown (NotGrown r) = false
+is_grown (Ok c) = true
+is_grown (Err r) = false
 
 kept_by : (t u : Bool) (a b : StablePages) (r q : Refusal) (m x : List ℕ)
-    → (pick t (outcome (Grown a) m) (pick u (outcome (Grown b) x) (outcome (NotGrown q) m))).growth ≡ NotGrown r
-    → (pick t (outcome (Grown a) m) (pick u (outcome (Grown b) x) (outcome (NotGrown q) m))).mem ≡ m
+    → (pick t (outcome (Ok a) m) (pick u (outcome (Ok b) x) (outcome (Err q) m))).growth ≡ Err r
+    → (pick t (outcome (Ok a) m) (pick u (outcome (Ok b) x) (outcome (Err q) m))).mem ≡ m
 kept_by true u a b r q m x h = refl
 kept_by false true a b r q m x h = absurd (true≢false (ap is_grown h))
 kept_by false false a b r q m x h = refl
 
-not_grown : (S n end : ℕ) (m : List ℕ) (r : Refusal) → (grow_to S n end m).growth ≡ NotGrown r → (grow_to S n end m).mem ≡ m
+not_grown : (S n end : ℕ) (m : List ℕ) (r : Refusal) → (grow_to S n end m).growth ≡ Err r → (grow_to S n end m).mem ≡ m
 unfolding grow_to
 not_grown S n end m r h =
     kept_by (leb end (n * S)) (leb (required S n end) (length m / S)) (stable n) (stable (required S n end)) r (GrowFailed (stable n) (stable (required S n end))) m
@@ -55,16 +54,16 @@ module _ (s : State) (m : List ℕ) (o : ℕ) (bs : List ℕ) (reach : ℕ) (is 
   unfolding chunk_to
   chunk_is g e = ap (λ (x : Outcome). place_to s m o bs x.mem x.growth) (e ∙ ap (λ (x : ℕ). grow_to 65536 s.count.0 x m) is)
 
-  pub chunk_refused : (g : Growth) (r : Refusal) (m' : List ℕ) → outcome g m' ≡ grow_to 65536 s.count.0 reach m → g ≡ NotGrown r → step_out (step s (Refused r)) m' ≡ chunk_to s m o bs
+  pub chunk_refused : (g : Growth) (r : Refusal) (m' : List ℕ) → outcome g m' ≡ grow_to 65536 s.count.0 reach m → g ≡ Err r → step_out (step s (Refused r)) m' ≡ chunk_to s m o bs
   chunk_refused g r m' e h =
       let back : m' ≡ m = ap (λ (x : Outcome). x.mem) e ∙ not_grown 65536 s.count.0 reach m r (ap (λ (x : Outcome). x.growth) (sym e) ∙ h) in
-      ap (step_out (step s (Refused r))) back ∙ chunk_is (outcome (NotGrown r) m') (ap (λ (x : Growth). outcome x m') (sym h) ∙ e)
+      ap (step_out (step s (Refused r))) back ∙ chunk_is (outcome (Err r) m') (ap (λ (x : Growth). outcome x m') (sym h) ∙ e)
 
-  pub chunk_grown : (g : Growth) (c : StablePages) (m' : List ℕ) → outcome g m' ≡ grow_to 65536 s.count.0 reach m → g ≡ Grown c
+  pub chunk_grown : (g : Growth) (c : StablePages) (m' : List ℕ) → outcome g m' ≡ grow_to 65536 s.count.0 reach m → g ≡ Ok c
       → (x : StepOut) (t : State) (n : List ℕ) (k : Superblock) → x ≡ restore_to t n k Done → t ≡ onward s c.0 s.block → n ≡ overwrite (s.block.import_base_offset + o) bs m'
       → k ≡ after_import_chunk (o + length bs) s.block → x ≡ chunk_to s m o bs
   chunk_grown g c m' e h x t n k i t-is n-is k-is =
-      i ∙ (λ j. restore_to (t-is j) (n-is j) (k-is j) Done) ∙ chunk_is (outcome (Grown c) m') (ap (λ (y : Growth). outcome y m') (sym h) ∙ e)
+      i ∙ (λ j. restore_to (t-is j) (n-is j) (k-is j) Done) ∙ chunk_is (outcome (Ok c) m') (ap (λ (y : Growth). outcome y m') (sym h) ∙ e)
 
 -- ## A step of a refresh
 

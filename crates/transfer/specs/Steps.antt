@@ -1,20 +1,36 @@
 -- A call's answer with the state and memory that it leaves.
-use Rattle.std.specs.Prelude.{ℕ, ◌+◌, ◌-◌, max, min, cond, ◌&&◌, List, eqb, length}
+use Rattle.std.specs.Prelude.{ℕ, ◌+◌, ◌-◌, ◌*◌, max, min, Bool, cond, ◌&&◌, List, eqb, leb, length, Result, Ok, Err}
+use Rattle.config.specs.declared.refusal.Refusal.{Refusal}
+use Rattle.config.specs.declared.refusal.Refusal.TheVariants.{BufferTooShort, UpdateInProgress, ImportNotStarted}
 use Rattle.memory.specs.Bytes.{overwrite}
 use Rattle.memory.specs.Growth.{grow_to}
-use Rattle.memory.specs.declared.Growth.{Growth}
-use Rattle.memory.specs.declared.Growth.TheVariants.{Grown, Refused as NotGrown}
+use Rattle.memory.specs.Growth.{Growth}
 use Rattle.meta.specs.declared.superblock.Superblock.{Superblock}
 use Rattle.fnv.specs.Fnv.{basis, fold}
 use Rattle.image.specs.Reading.{image_of, resealed, restored}
 use Rattle.update.specs.Lists.{tabulate_from}
 use Rattle.update.specs.Image.{image_in}
 use Rattle.store.specs.declared.State.{State}
-use Rattle.store.specs.declared.Answer.{Answer}
-use Rattle.store.specs.declared.Answer.TheVariants.{Done, Refreshed, Refused}
-use Rattle.store.specs.declared.Step.{Step}
-use Rattle.store.specs.Blocks.{refreshing, after_import_chunk, after_refresh, after_refresh_step}
+use Rattle.store.specs.Answers.{Answer}
+use Rattle.store.specs.Answers.{Done, Refreshed, Refused}
+use Rattle.store.specs.Answers.{Step}
+use Rattle.store.specs.Blocks.{importing, refreshing, after_import_chunk, after_refresh, after_refresh_step}
 use Rattle.store.specs.Store.{onward}
+
+-- 35, then 12: whether memory is lent, and whether an update is open
+abbrev pub admission_by : Bool → Bool → Result (Unit {0}) Refusal
+admission_by lent updating = cond lent (cond updating (Err UpdateInProgress) (Ok tt)) (Err BufferTooShort)
+
+abbrev pub admission : State → List ℕ → Result (Unit {0}) Refusal
+admission s m = admission_by (leb (s.count.0 * 65536) (length m)) s.updating
+
+-- then 11: whether an import is open
+abbrev pub import_admission_by : Bool → Result (Unit {0}) Refusal → Result (Unit {0}) Refusal
+import_admission_by importing? (Ok u) = cond importing? (Ok u) (Err ImportNotStarted)
+import_admission_by importing? (Err r) = Err r
+
+abbrev pub import_admission : State → List ℕ → Result (Unit {0}) Refusal
+import_admission s m = import_admission_by (importing s.block) (admission s m)
 
 pub record StepOut : Type 0 where
   pub result : Step
@@ -26,14 +42,22 @@ step_out r m = record { result = r; mem = m }
 abbrev pub step : State → Answer → Step
 step s a = record { state = s; answer = a }
 
+-- a state and memory
+pub record BlockStored : Type 0 where
+  pub state : State
+  pub mem : List ℕ
+
+abbrev pub block_stored : State → List ℕ → BlockStored
+block_stored s m = record { state = s; mem = m }
+
 -- a block is stored, with the image's runs as they are
 abbrev pub restore_to : State → List ℕ → Superblock → Answer → StepOut
 restore_to s m b a = step_out (step (onward s s.count.0 (resealed b m)) a) (restored b m)
 
 -- memory m grew to g, or did not, and the chunk goes to its place
 abbrev pub place_to : State → List ℕ → ℕ → List ℕ → List ℕ → Growth → StepOut
-place_to s m o bs g (NotGrown r) = step_out (step s (Refused r)) m
-place_to s m o bs g (Grown c) =
+place_to s m o bs g (Err r) = step_out (step s (Refused r)) m
+place_to s m o bs g (Ok c) =
     restore_to (onward s c.0 s.block) (overwrite (s.block.import_base_offset + o) bs g) (after_import_chunk (o + length bs) s.block) Done
 
 -- the end in memory that a chunk needs: none if it is empty

@@ -1,5 +1,5 @@
 -- The store's definition at the calls that are lent memory alone: one law for each way out.
-use Rattle.std.specs.Prelude.{◌≡◌, Bool, true, false, ◌&&◌, ◌||◌, leb, take, drop}
+use Rattle.std.specs.Prelude.{◌≡◌, Bool, true, false, ◌&&◌, ◌||◌, leb, take, drop, Result, Ok, Err}
 use Rattle.std.proofs.Math.Path.{refl, ap}
 use Rattle.std.proofs.Common.{sym, ◌∙◌, arith, true≢false, ext_get_or, lt-ltb, le-ltb, eq-eqb, ne_eqb, leb-true, leb-false}
 use Prim.Native.Nat.{ℕ, ◌+◌, ◌-◌, ◌*◌, ◌≤◌, ◌<◌, max, min}
@@ -12,8 +12,7 @@ use Rattle.config.specs.declared.refusal.Refusal.{Refusal}
 use Rattle.config.specs.declared.refusal.Refusal.TheVariants.{ImportAlreadyStarted, ImportNotStarted, UpdateInProgress, OffsetOverflow, ImportOutOfOrder, ImportOutOfBounds, ImportIncomplete, ChecksumMismatch, ChecksumRefreshChunkEmpty, BufferTooShort}
 use Rattle.memory.specs.Bytes.{overwrite}
 use Rattle.memory.specs.Growth.{grow_to}
-use Rattle.memory.specs.declared.Growth.{Growth}
-use Rattle.memory.specs.declared.Growth.TheVariants.{Grown, Refused as NotGrown}
+use Rattle.memory.specs.Growth.{Growth}
 use Rattle.meta.specs.declared.superblock.Superblock.{Superblock}
 use Rattle.fnv.specs.Fnv.{basis, fold, fnv1a64}
 use Rattle.meta.specs.Block.{seal, store_in}
@@ -23,15 +22,14 @@ use Rattle.update.specs.ListLaws.{tabulate_from-at, tabulate_at, length-tabulate
 use Rattle.update.specs.Image.{image_in}
 use Rattle.update.specs.Buffers.{Buffers, frame_count}
 use Rattle.store.specs.declared.State.{State}
-use Rattle.store.specs.declared.Answer.{Answer}
-use Rattle.store.specs.declared.Answer.TheVariants.{Done, Exported, Checksum, Refreshed, Refused}
-use Rattle.store.specs.declared.Step.{Step}
+use Rattle.store.specs.Answers.{Answer, Step}
+use Rattle.store.specs.Answers.{Done, Exported, Checksum, Refreshed, Refused, answered, done}
 use Rattle.store.specs.Codec.{real_codec, sealed, stored, real_sealed, real_stored}
 use Rattle.store.specs.Blocks.{importing, refreshing, after_import_begin, after_import_cancel, after_import_finish, after_refresh, after_refresh_step}
 use Rattle.store.specs.Calls.{Call, begin, read, write, truncate, commit, rollback, file_size, import_begin, import_chunk, import_finish, import_cancel, export, checksum, refresh, refresh_step, Lent, Out, out, Uses, uses, these, lent_bytes, mode_if, mode_of, buffers_short, short}
 use Rattle.store.specs.Store.{store, act, alone, refuse, swept, onward, restore, image_bytes, image_sum, do_import_begin, do_import_chunk, do_import_finish, do_import_cancel, do_export, do_checksum, do_refresh, do_refresh_step, refresh_from, place_chunk, progress}
-use Rattle.transfer.specs.OnMemory.{lent}
-use Rattle.transfer.specs.Steps.{StepOut, step_out, step, restore_to, place_to, chunk_reach, chunk_to, refresh_to, refresh_step_to}
+use Rattle.transfer.specs.OnMemory.{lent, OnMemory}
+use Rattle.transfer.specs.Steps.{admission, admission_by, import_admission, import_admission_by, StepOut, step_out, step, BlockStored, block_stored, restore_to, place_to, chunk_reach, chunk_to, refresh_to, refresh_step_to}
 
 abbrev pub most : ℕ
 most = 18446744073709551615
@@ -109,7 +107,7 @@ module _ (s : State) (m : List ℕ) (b : Buffers) (w : List ℕ) (c : Call) (onl
     pub idle_acts : s.updating ≡ false → store 16384 65536 8 1024 most real_codec s (lent m b w) c ≡ doing s (lent m b w) c
     idle_acts u = acts ∙ ap (λ (t : Bool). alone 16384 65536 8 1024 most real_codec s (lent m b w) c (doing s (lent m b w) c) (mode_if t s.overlay)) u
 
--- ## The same from a call's step
+-- ## The same from the tests of a call
 
 pub not_true : (t u : Bool) → t ≡ u → not t ≡ true → u ≡ false
 not_true true u e h = absurd (true≢false (sym h))
@@ -118,6 +116,70 @@ not_true false u e h = sym e
 pub not_false : (t u : Bool) → t ≡ u → not t ≡ false → u ≡ true
 not_false true u e h = sym e
 not_false false u e h = absurd (true≢false h)
+
+abbrev is_accepted : {A : Type 0} → Result A Refusal → Bool
+is_accepted (Ok x) = true
+is_accepted (Err r) = false
+
+module _ (s : State) (m : List ℕ) (c : Call) (only : uses c ≡ these true false false) where
+  refused_by : (b : Buffers) (w : List ℕ) (t u : Bool) (r : Refusal) → leb (s.count.0 * 65536) (length m) ≡ t → s.updating ≡ u
+      → admission_by t u ≡ Err r
+      → store 16384 65536 8 1024 most real_codec s (lent m b w) c ≡ out s (lent m b w) (Refused r) (lent_bytes c)
+  refused_by b w false u r e f h = short_refused s m b w c only (leb-false _ _ e) ∙ ap (λ (x : Result (Unit {0}) Refusal). out s (lent m b w) (done x) (lent_bytes c)) h
+  refused_by b w true true r e f h = updating_refused s m b w c only (leb-true _ _ e) f ∙ ap (λ (x : Result (Unit {0}) Refusal). out s (lent m b w) (done x) (lent_bytes c)) h
+  refused_by b w true false r e f h = absurd (true≢false (ap is_accepted h))
+
+  admitted_by : (b : Buffers) (w : List ℕ) (t u : Bool) → leb (s.count.0 * 65536) (length m) ≡ t → s.updating ≡ u
+      → admission_by t u ≡ Ok tt → store 16384 65536 8 1024 most real_codec s (lent m b w) c ≡ doing s (lent m b w) c
+  admitted_by b w true false e f h = idle_acts s m b w c only (leb-true _ _ e) f
+  admitted_by b w true true e f h = absurd (true≢false (ap is_accepted (sym h)))
+  admitted_by b w false u e f h = absurd (true≢false (ap is_accepted (sym h)))
+
+  -- a call that answers as its tests did leaves what was lent
+  pub refused_exit : {A : Type 0} (f : A → Answer) (x : Result A Refusal) (y r : Refusal) → x ≡ Err y → y ≡ r → admission s m ≡ Err r → OnMemory s m c s m (answered f x) (lent_bytes c)
+  refused_exit f x y r e g h b w =
+      ap (λ (z : Result _ Refusal). out s (lent m b w) (answered f z) (lent_bytes c)) (e ∙ ap Err g) ∙ sym (refused_by b w _ _ r refl refl h)
+
+  pub admitted : (b : Buffers) (w : List ℕ) → admission s m ≡ Ok tt → store 16384 65536 8 1024 most real_codec s (lent m b w) c ≡ doing s (lent m b w) c
+  admitted b w h = admitted_by b w _ _ refl refl h
+
+pub lent_by : (s : State) (m : List ℕ) (t u : Bool) → leb (s.count.0 * 65536) (length m) ≡ t → admission_by t u ≡ Ok tt → s.count.0 * 65536 ≤ length m
+lent_by s m true u e h = leb-true _ _ e
+lent_by s m false u e h = absurd (true≢false (ap is_accepted (sym h)))
+
+pub admitted_lent : (s : State) (m : List ℕ) → admission s m ≡ Ok tt → s.count.0 * 65536 ≤ length m
+admitted_lent s m h = lent_by s m _ _ refl h
+
+-- with an import open
+module _ (s : State) (m : List ℕ) where
+  opened_by : (t : Bool) (a : Result (Unit {0}) Refusal) → importing s.block ≡ t → admission s m ≡ a → import_admission_by t a ≡ Ok tt → (admission s m ≡ Ok tt) × (importing s.block ≡ true)
+  opened_by true (Ok u) e f h = (f, e)
+  opened_by false (Ok u) e f h = absurd (true≢false (ap is_accepted (sym h)))
+  opened_by t (Err r) e f h = absurd (true≢false (ap is_accepted (sym h)))
+
+  pub opened : import_admission s m ≡ Ok tt → (admission s m ≡ Ok tt) × (importing s.block ≡ true)
+  opened h = opened_by _ _ refl refl h
+
+  module _ (c : Call) (only : uses c ≡ these true false false)
+      (none : (b : Buffers) (w : List ℕ) → importing s.block ≡ false → doing s (lent m b w) c ≡ out s (lent m b w) (Refused ImportNotStarted) (lent_bytes c)) where
+    closed_by : (b : Buffers) (w : List ℕ) (t : Bool) (a : Result (Unit {0}) Refusal) (r : Refusal) → importing s.block ≡ t → admission s m ≡ a → import_admission_by t a ≡ Err r
+        → store 16384 65536 8 1024 most real_codec s (lent m b w) c ≡ out s (lent m b w) (Refused r) (lent_bytes c)
+    closed_by b w t (Err q) r e f h = refused_by s m c only b w _ _ q refl refl f ∙ ap (λ (x : Result (Unit {0}) Refusal). out s (lent m b w) (done x) (lent_bytes c)) h
+    closed_by b w false (Ok u) r e f h = admitted s m c only b w f ∙ none b w e ∙ ap (λ (x : Result (Unit {0}) Refusal). out s (lent m b w) (done x) (lent_bytes c)) h
+    closed_by b w true (Ok u) r e f h = absurd (true≢false (ap is_accepted h))
+
+    pub closed_exit : (x : Result (Unit {0}) Refusal) (y r : Refusal) → x ≡ Err y → y ≡ r → import_admission s m ≡ Err r → OnMemory s m c s m (done x) (lent_bytes c)
+    closed_exit x y r e g h b w = ap (λ (z : Result (Unit {0}) Refusal). out s (lent m b w) (done z) (lent_bytes c)) (e ∙ ap Err g) ∙ sym (closed_by b w _ _ r refl refl h)
+
+-- a state and memory with a block stored
+pub stored_as : (s s' : State) (m m' : List ℕ) (k : Superblock) (a : Answer) → block_stored s' m' ≡ block_stored (onward s s.count.0 (resealed k m)) (restored k m) → step_out (step s' a) m' ≡ restore_to s m k a
+stored_as s s' m m' k a e = ap (λ (x : BlockStored). step_out (step x.state a) x.mem) e
+
+-- the whole answer of a call with a state and memory that it left
+pub answered_with : (s' : State) (m' : List ℕ) (a : Answer) (b : Buffers) (w : List ℕ) (x : StepOut) (o : Out) → step_out (step s' a) m' ≡ x → o ≡ out_of x b w → out s' (lent m' b w) a [] ≡ o
+answered_with s' m' a b w x o e h = ap (λ (y : StepOut). out_of y b w) e ∙ sym h
+
+-- ## The same from a call's step
 
 pub too_short_lem : (s : State) (m : List ℕ) (t : Bool) → t ≡ leb (s.count.0 * 65536) (length m) → not t ≡ true → length m < s.count.0 * 65536
 too_short_lem s m t e f = leb-false _ _ (not_true t _ e f)
@@ -151,7 +213,7 @@ module _ (s : State) (m : List ℕ) (b : Buffers) (w : List ℕ) where
   unfolding restore resealed restored real_codec stored seal store_in
   restore_is k a = refl
 
-  place_grown : (o : ℕ) (bs g : List ℕ) (c : StablePages) → place_chunk 16384 65536 8 1024 most real_codec s (lent m b w) o bs g (Grown c) ≡ out_of (place_to s m o bs g (Grown c)) b w
+  place_grown : (o : ℕ) (bs g : List ℕ) (c : StablePages) → place_chunk 16384 65536 8 1024 most real_codec s (lent m b w) o bs g (Ok c) ≡ out_of (place_to s m o bs g (Ok c)) b w
   unfolding restore resealed restored real_codec stored seal store_in
   place_grown o bs g c = refl
 
@@ -233,8 +295,8 @@ module _ (s : State) (m : List ℕ) (b : Buffers) (w : List ℕ) where
   -- ### A chunk
 
   pub place_is : (o : ℕ) (bs g : List ℕ) (r : Growth) → place_chunk 16384 65536 8 1024 most real_codec s (lent m b w) o bs g r ≡ out_of (place_to s m o bs g r) b w
-  place_is o bs g (NotGrown r) = refl
-  place_is o bs g (Grown c) = place_grown o bs g c
+  place_is o bs g (Err r) = refl
+  place_is o bs g (Ok c) = place_grown o bs g c
 
   module _ (o : ℕ) (bs : List ℕ) where
     pub chunk_none : importing s.block ≡ false → do_import_chunk 16384 65536 8 1024 most real_codec s (lent m b w) o bs ≡ out s (lent m b w) (Refused ImportNotStarted) []

@@ -1,4 +1,4 @@
-// Exports and checksums of an image, and how every call ends that is lent memory alone.
+// Exports and checksums of an image, and how every call begins and ends that is lent memory alone.
 #![tactic(auto)]
 
 pub mod step;

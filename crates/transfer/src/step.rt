@@ -1,45 +1,29 @@
-// A call's end: refused with nothing changed, or with a block stored anew.
+// How a call begins and ends that is lent memory alone.
 ghost use Rattle.std.specs.Prelude.{◌≡◌};
 ghost use Rattle.image.specs.Reading.{resealed, restored};
-ghost use Rattle.store.specs.declared.Answer.TheVariants.{Refused};
 ghost use Rattle.store.specs.Store.{onward};
-ghost use Rattle.transfer.specs.Steps.{step_out, step};
+ghost use Rattle.transfer.specs.Steps.{admission, block_stored};
 
-use config::{Refusal, StablePages};
+use config::Refusal;
 use meta::Superblock;
-use store::{Answer, State, Step};
+use store::State;
 
-pub fn refuse(s: State, refusal: Refusal) -> Step
-    ensures { result ≡ record { state = s; answer = Refused refusal } }
+// The tests that each of them begins with: 35, then 12.
+pub fn admit(s: &State, mem: &[u8]) -> Result<(), Refusal>
+    ensures { result ≡ admission s.now mem.now }
 {
-    Step {
-        state: s,
-        answer: Answer::Refused(refusal),
+    if !memory::is_lent(mem, s.count) {
+        return Err(Refusal::BufferTooShort);
     }
+    if s.updating {
+        return Err(Refusal::UpdateInProgress);
+    }
+    Ok(())
 }
 
-// The state with another count and block.
-pub fn onward(s: State, count: StablePages, block: Superblock) -> State
-    ensures { result ≡ onward s count.0 block }
+// The block is stored, with the image's runs as they are in memory, and becomes the state's.
+pub fn restore(s: &mut State, mem: &mut [u8], block: Superblock)
+    ensures { block_stored s.new mem.new ≡ block_stored (onward s.old s.old.count.0 (resealed block mem.old)) (restored block mem.old) }
 {
-    let updating = s.updating;
-    let overlay = s.overlay;
-    State {
-        count,
-        block,
-        updating,
-        overlay,
-    }
-}
-
-// The block is stored, with the image's runs as they are in memory.
-pub fn restore(s: State, mem: &mut [u8], block: Superblock, answer: Answer) -> Step
-    ensures { step_out result mem.new ≡ step_out (step (onward s s.count.0 (resealed block mem.old)) answer) (restored block mem.old) }
-{
-    let count = s.count;
-    let stored = image::restore(block, mem);
-    Step {
-        state: onward(s, count, stored),
-        answer,
-    }
+    s.block = image::restore(block, mem);
 }

@@ -6,7 +6,7 @@ use Prim.Native.Nat.{ℕ, zero, suc, ◌+◌, ◌-◌, ◌*◌, ◌/◌, ◌%◌
 use Rattle.std.proofs.Math.Bool.{false, or-true}
 use Rattle.std.proofs.Math.Seq.{drop-nil}
 use Rattle.config.specs.Pages.{count, page_lo, page_at, page_place, count_lt, lt_count}
-use Rattle.memory.specs.Bytes.{zeros}
+use Rattle.memory.specs.Bytes.{zeros, filled}
 use Rattle.memory.specs.Laws.{split, below}
 use Rattle.runs.specs.Sets.{covers}
 use Rattle.update.specs.Lists.{tabulate, tabulate_from}
@@ -92,7 +92,7 @@ module _ (P C : ℕ) (pos : 0 < P) (some : 0 < C) (b : ℕ → ℕ) where
   read_past o (suc n) v h = ap (read_over P C b (suc o) n) (if_ge o v.size _ _ h) ∙ read_past (suc o) n v (omega arith)
 
   pub bytes_past : (o n : ℕ) (v : Over) → v.size ≤ o → read_bytes P C b o n v ≡ zeros n
-  unfolding zeros over_byte
+  unfolding filled over_byte
   bytes_past o zero v h = refl
   bytes_past o (suc n) v h =
       let r : read_bytes P C b (suc o) n (step o v) ≡ zeros n = ap (read_bytes P C b (suc o) n) (if_ge o v.size _ _ h) ∙ bytes_past (suc o) n v (omega arith) in

@@ -3,7 +3,7 @@ use Rattle.std.specs.Prelude.{◌≡◌, ℕ, ◌<◌, Bool, List, length}
 use Rattle.std.proofs.Common.{◌∙◌}
 use Rattle.update.specs.declared.Overlay.{Overlay}
 use Rattle.update.specs.declared.Image.{Image}
-use Rattle.update.specs.declared.Verdict.{Verdict}
+use Rattle.update.specs.Verdict.{Verdict}
 use Rattle.update.specs.Image.{image_in}
 use Rattle.update.specs.Update.{Over, keep_size, try_touch, try_grow_to, try_chop}
 use Rattle.update.specs.Rooms.{try_touch_lem, try_grow_lem, try_chop_lem, size_room}

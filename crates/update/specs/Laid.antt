@@ -1,10 +1,9 @@
 -- An update in the lent slices, changed and put back: the overlay's numbers, every slice to its last element, and the answer.
-use Rattle.std.specs.Prelude.{ℕ, ◌+◌, ◌*◌, ◌/◌, ◌≤◌, max, Bool, false, not, cond, ◌≡◌, List, length, take}
+use Rattle.std.specs.Prelude.{ℕ, ◌+◌, ◌*◌, ◌/◌, ◌≤◌, max, Bool, false, not, cond, ◌≡◌, List, length, take, Ok, Err}
 use Rattle.update.specs.declared.Overlay.{Overlay}
 use Rattle.update.specs.declared.CleanCache.{CleanCache}
 use Rattle.update.specs.declared.Image.{Image}
-use Rattle.update.specs.declared.Verdict.{Verdict}
-use Rattle.update.specs.declared.Verdict.TheVariants.{Accepted, Refused}
+use Rattle.update.specs.Verdict.{Verdict}
 use Rattle.update.specs.Lists.{tabulate_from}
 use Rattle.update.specs.Pages.{Page, holds, keep_below, page_byte, pages_in, span}
 use Rattle.update.specs.Image.{image_in}
@@ -25,8 +24,8 @@ abbrev pub laid : Overlay → Buffers → Verdict → Laid
 laid v l a = record { overlay = v; bufs = l; verdict = a }
 
 abbrev pub verdict_of : Tried → Verdict
-verdict_of (accepted w) = Accepted
-verdict_of (refused r w) = Refused r
+verdict_of (accepted w) = Ok tt
+verdict_of (refused r w) = Err r
 
 -- each byte as it is
 abbrev pub same : ℕ → ℕ → ℕ

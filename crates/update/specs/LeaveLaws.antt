@@ -1,5 +1,5 @@
 -- Changes one after another: what the first leaves in the lent slices is what the second starts from.
-use Rattle.std.specs.Prelude.{◌≡◌}
+use Rattle.std.specs.Prelude.{◌≡◌, Ok, Err}
 use Rattle.std.proofs.Math.Path.{refl, sym, ap, subst}
 use Rattle.std.proofs.Common.{◌∙◌, arith}
 use Prim.Native.Nat.{ℕ, ◌*◌, ◌≤◌, ◌<◌, max}
@@ -12,8 +12,7 @@ use Rattle.meta.specs.Runs.{numbers_of}
 use Rattle.runs.specs.FlatLaws.{length-numbers, length-runs_in}
 use Rattle.config.specs.declared.refusal.Refusal.{Refusal}
 use Rattle.update.specs.declared.Overlay.{Overlay}
-use Rattle.update.specs.declared.Verdict.{Verdict}
-use Rattle.update.specs.declared.Verdict.TheVariants.{Accepted, Refused}
+use Rattle.update.specs.Verdict.{Verdict}
 use Rattle.update.specs.Lists.{refill}
 use Rattle.update.specs.ListLaws.{refill_keeps, refill_twice, refill_alike}
 use Rattle.update.specs.Pages.{Page, page_numbers, flat}
@@ -33,9 +32,9 @@ max_mul a b P = below a b
 pub told : {v : Overlay} {l : Buffers} {a b : Verdict} {x : Laid} → laid v l a ≡ x → a ≡ b → x ≡ laid v l b
 told {v} {l} e t = sym e ∙ ap (λ (y : Verdict). laid v l y) t
 
-abbrev pub Ok : Verdict → Type 0
-Ok Accepted = Unit {0}
-Ok (Refused r) = ⊥
+abbrev pub IsAccepted : Verdict → Type 0
+IsAccepted (Ok u) = Unit {0}
+IsAccepted (Err r) = ⊥
 
 -- page size, cache pages
 module _ (P C : ℕ) where
@@ -162,12 +161,12 @@ module _ (P C : ℕ) where
           (ap (λ (x : Over). leave P C (overlay_of P C v.base_size (left t)) (put_back P C v n (left t) l) (length (left t).dirty) (f x)) (view_left n (left t) busy r)
           ∙ leave_leave n (left t) busy r (length (left t).dirty) (f (left t)) (omega arith) (g (left t)))
 
-    pub then_accepted : (n : ℕ) (t : Tried) (f : Over → Tried) (v1 : Overlay) (l1 : Buffers) → leave P C v l n t ≡ laid v1 l1 Accepted → and_then t f ≡ f (left t)
+    pub then_accepted : (n : ℕ) (t : Tried) (f : Over → Tried) (v1 : Overlay) (l1 : Buffers) → leave P C v l n t ≡ laid v1 l1 (Ok tt) → and_then t f ≡ f (left t)
     unfolding leave
     then_accepted n (accepted w) f v1 l1 e = refl
-    then_accepted n (refused r w) f v1 l1 e = absurd (subst (λ (x : Laid). Ok x.verdict) (sym e) tt)
+    then_accepted n (refused r w) f v1 l1 e = absurd (subst (λ (x : Laid). IsAccepted x.verdict) (sym e) tt)
 
-    pub then_refused : (n : ℕ) (t : Tried) (f : Over → Tried) (v1 : Overlay) (l1 : Buffers) (r : Refusal) → leave P C v l n t ≡ laid v1 l1 (Refused r) → and_then t f ≡ t
+    pub then_refused : (n : ℕ) (t : Tried) (f : Over → Tried) (v1 : Overlay) (l1 : Buffers) (r : Refusal) → leave P C v l n t ≡ laid v1 l1 (Err r) → and_then t f ≡ t
     unfolding leave
-    then_refused n (accepted w) f v1 l1 r e = absurd (subst (λ (x : Laid). Ok x.verdict) e tt)
+    then_refused n (accepted w) f v1 l1 r e = absurd (subst (λ (x : Laid). IsAccepted x.verdict) e tt)
     then_refused n (refused x w) f v1 l1 r e = refl

@@ -3,6 +3,7 @@ pub mod ListLaws
 pub mod Pages
 pub mod Image
 pub mod Update
+pub mod Verdict
 pub mod Admit
 pub mod Buffers
 pub mod PageLaws

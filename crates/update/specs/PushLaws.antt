@@ -1,5 +1,5 @@
 -- A run pushed on the record in the lent slices, and the growth or the cut that it belongs to.
-use Rattle.std.specs.Prelude.{◌≡◌, refl, ℕ, ◌+◌, ◌*◌, ◌/◌, ◌≤◌, ◌<◌, cond, ◌&&◌, take}
+use Rattle.std.specs.Prelude.{◌≡◌, refl, ℕ, ◌+◌, ◌*◌, ◌/◌, ◌≤◌, ◌<◌, cond, ◌&&◌, take, Ok, Err}
 use Rattle.std.proofs.Math.Path.{sym, ap}
 use Rattle.std.proofs.Common.{◌∙◌, arith, length-append, le-leb}
 use Rattle.std.proofs.Math.Bool.{true, false}
@@ -17,7 +17,6 @@ use Rattle.runs.specs.Flat.{runs_in}
 use Rattle.runs.specs.FlatLaws.{length-runs_in}
 use Rattle.update.specs.declared.Overlay.{Overlay}
 use Rattle.update.specs.declared.Image.{Image}
-use Rattle.update.specs.declared.Verdict.TheVariants.{Accepted, Refused}
 use Rattle.update.specs.Lists.{refill}
 use Rattle.update.specs.ListLaws.{clash, refill_same, refill_more, resize-take}
 use Rattle.update.specs.Pages.{Page, page_numbers, flat, keep_below, pages_in}
@@ -70,7 +69,7 @@ module _ (P C : ℕ) (pos : 0 < P) (v : Overlay) (l : Buffers) (fits : Fits P C 
   -- growth as far as its record
   pub stretched : Free v.recorded (count P v.size) (count P n) l.recs
       → leave P C v l v.dirty (accepted (stretch P n (view P C v l)))
-      ≡ laid (recording (count P v.size) (count P n)) (bufs l.frames l.numbers l.clean (pushed_recs v.recorded (count P v.size) (count P n) l.recs)) Accepted
+      ≡ laid (recording (count P v.size) (count P n)) (bufs l.frames l.numbers l.clean (pushed_recs v.recorded (count P v.size) (count P n) l.recs)) (Ok tt)
   unfolding leave stretch view overlay_of put_back
   stretched free = λ k. laid
       record {
@@ -86,7 +85,7 @@ module _ (P C : ℕ) (pos : 0 < P) (v : Overlay) (l : Buffers) (fits : Fits P C 
       (ap (λ (x : Buffers). x.numbers) (put_view P C pos v l fits) k)
       (ap (λ (x : Buffers). x.clean) (put_view P C pos v l fits) k)
       (push_recs v.recorded (count P v.size) (count P n) l.recs fits.1.0 free k))
-      Accepted
+      (Ok tt)
 
   view_recs : length (view P C v l).recorded ≡ v.recorded
   unfolding view
@@ -97,18 +96,18 @@ module _ (P C : ℕ) (pos : 0 < P) (v : Overlay) (l : Buffers) (fits : Fits P C 
   unfolding entry_count
   full_is a e = ap (λ (x : ℕ). ltb a e && leb (length l.recs / 2) x) view_recs
 
-  pub refused_same : (r : Refusal) → leave P C v l v.dirty (refused r (view P C v l)) ≡ laid v l (Refused r)
+  pub refused_same : (r : Refusal) → leave P C v l v.dirty (refused r (view P C v l)) ≡ laid v l (Err r)
   unfolding leave
-  refused_same r = λ k. laid (overlay_view P C pos v l fits k) (put_view P C pos v l fits k) (Refused r)
+  refused_same r = λ k. laid (overlay_view P C pos v l fits k) (put_view P C pos v l fits k) (Err r)
 
-  pub accepted_same : leave P C v l v.dirty (accepted (view P C v l)) ≡ laid v l Accepted
+  pub accepted_same : leave P C v l v.dirty (accepted (view P C v l)) ≡ laid v l (Ok tt)
   unfolding leave
-  accepted_same = λ k. laid (overlay_view P C pos v l fits k) (put_view P C pos v l fits k) Accepted
+  accepted_same = λ k. laid (overlay_view P C pos v l fits k) (put_view P C pos v l fits k) (Ok tt)
 
   module _ (M : ℕ) where
     -- ## A cut
 
-    pub chopped_full : (ltb (count P n) (count P v.size) && leb (length l.recs / 2) v.recorded) ≡ true → chopped P C M v l n ≡ laid v l (Refused RecordFull)
+    pub chopped_full : (ltb (count P n) (count P v.size) && leb (length l.recs / 2) v.recorded) ≡ true → chopped P C M v l n ≡ laid v l (Err RecordFull)
     unfolding chopped try_chop view
     chopped_full h =
         let t : (ltb (count P n) (count P v.size) && leb (entry_count l) (length (view P C v l).recorded)) ≡ true = full_is (count P n) (count P v.size) ∙ h in
@@ -118,7 +117,7 @@ module _ (P C : ℕ) (pos : 0 < P) (v : Overlay) (l : Buffers) (fits : Fits P C 
     cut_pages = below_count P C (recording (count P n) (count P v.size)) l.frames l.numbers l.clean (count P n) n
 
     pub chopped_some : Free v.recorded (count P n) (count P v.size) l.recs
-        → chopped P C M v l n ≡ laid cut_pages.overlay (bufs cut_pages.frames cut_pages.numbers cut_pages.clean (pushed_recs v.recorded (count P n) (count P v.size) l.recs)) Accepted
+        → chopped P C M v l n ≡ laid cut_pages.overlay (bufs cut_pages.frames cut_pages.numbers cut_pages.clean (pushed_recs v.recorded (count P n) (count P v.size) l.recs)) (Ok tt)
     unfolding chopped try_chop leave chop view overlay_of put_back below_count relaid cache_laid
     chopped_some free =
         let t : (ltb (count P n) (count P v.size) && leb (entry_count l) (length (view P C v l).recorded)) ≡ false = full_is (count P n) (count P v.size) ∙ free in
@@ -139,7 +138,7 @@ module _ (P C : ℕ) (pos : 0 < P) (v : Overlay) (l : Buffers) (fits : Fits P C 
         (refill v.dirty (page_numbers (keep_below (count P n) (d j))) l.numbers)
         (refill (length (cached P C v.cache) * P) (flat k) l.clean)
         (push_recs v.recorded (count P n) (count P v.size) l.recs fits.1.0 free j))
-        Accepted)
+        (Ok tt))
 
     -- ## Growth
 
@@ -156,7 +155,7 @@ module _ (P C : ℕ) (pos : 0 < P) (v : Overlay) (l : Buffers) (fits : Fits P C 
       abbrev K : ℕ
       K = length (cached P C v.cache)
 
-      pub grown_full : (ltb (count P v.size) (count P n) && leb (length l.recs / 2) v.recorded) ≡ true → grown P C M i mem v l n ≡ laid v l (Refused RecordFull)
+      pub grown_full : (ltb (count P v.size) (count P n) && leb (length l.recs / 2) v.recorded) ≡ true → grown P C M i mem v l n ≡ laid v l (Err RecordFull)
       unfolding grown try_grow view
       grown_full h =
           let t : (ltb (count P v.size) (count P n) && leb (entry_count l) (length (view P C v l).recorded)) ≡ true = full_is (count P v.size) (count P n) ∙ h in

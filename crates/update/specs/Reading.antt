@@ -1,6 +1,6 @@
 -- Reads in an update: the cache changes, and no byte does.
-use Rattle.std.specs.Prelude.{◌≡◌, refl, ℕ, zero, suc, ◌+◌, ◌-◌, ◌*◌, ◌/◌, ◌%◌, ◌≤◌, ◌<◌, max, min, Bool, true, false, not, ◌&&◌, ◌||◌, List, [], ◌∷◌, ◌++◌, ltb, leb, eqb, get_or, drop}
-use Rattle.std.proofs.Common.{sym, ap, ◌∙◌, subst, arith, ext_get_or, get_or-drop}
+use Rattle.std.specs.Prelude.{◌≡◌, refl, ℕ, zero, suc, ◌+◌, ◌/◌, ◌≤◌, ◌<◌, ◌||◌, List, ◌∷◌, ltb, get_or, drop}
+use Rattle.std.proofs.Common.{sym, ap, ◌∙◌, arith, ext_get_or, get_or-drop}
 use Rattle.std.proofs.Math.Path.{fun_ext}
 use Rattle.std.proofs.Math.Bool.{cond}
 use Rattle.std.proofs.Math.ListN.{length, get_or-eq_default}
@@ -10,11 +10,10 @@ use Rattle.memory.specs.Laws.{split, length-resize, resize_in}
 use Rattle.runs.specs.Sets.{covers}
 use Rattle.update.specs.Lists.{tabulate, tabulate_from}
 use Rattle.update.specs.ListLaws.{tests, tabulate_from-at, length-tabulate_from, length-tabulate, tabulate_at}
-use Rattle.update.specs.Pages.{Page, holds, page_byte}
-use Rattle.update.specs.Image.{image_page}
+use Rattle.update.specs.Pages.{holds, page_byte}
 use Rattle.update.specs.Update.{Over, raw, over_byte, look_up, read_over, read_bytes}
-use Rattle.update.specs.Refused.{AllImage, all_byte, Weak, look_weak}
-use Rattle.update.specs.Changes.{Like, Shape}
+use Rattle.update.specs.Refused.{all_byte, Weak, look_weak}
+use Rattle.update.specs.Changes.{Like}
 
 -- the same update, but for its cache
 pub record Seen (P C M : ℕ) (b : ℕ → ℕ) (v w : Over) : Type 0 where

@@ -1,14 +1,11 @@
 -- When a call in an update is refused: 33 and 34 only where nothing is free, 30 only by the budget, and what a budget without limits keeps.
-use Rattle.std.specs.Prelude.{◌≡◌, refl, ℕ, zero, suc, ◌+◌, ◌-◌, ◌*◌, ◌/◌, ◌%◌, ◌≤◌, ◌<◌, max, min, Bool, true, false, not, ◌&&◌, ◌||◌, List, [], ◌∷◌, ◌++◌, ltb, leb, eqb, length}
-use Rattle.std.proofs.Common.{sym, ◌∙◌, arith}
+use Rattle.std.specs.Prelude.{◌≡◌, ℕ, suc, ◌≤◌, ◌<◌, max, Bool, true, false, ltb, eqb, length}
 use Rattle.std.proofs.Math.Path.{ap}
 use Rattle.std.proofs.Math.Bool.{cond}
-use borrow.Author.Tests.{ltb-true, ltb-false, leb-true, leb-false, eqb-true, eqb-false, lt-ltb, le-ltb, le-leb, lt-leb}
-use Rattle.config.specs.declared.refusal.Refusal.{Refusal}
-use Rattle.config.specs.declared.refusal.Refusal.TheVariants.{OffsetOverflow, BudgetExceeded, FramesFull, RecordFull}
+use borrow.Author.Tests.{eqb-true, lt-ltb, le-ltb, le-leb, lt-leb}
+use Rattle.config.specs.declared.refusal.Refusal.TheVariants.{BudgetExceeded, FramesFull, RecordFull}
 use Rattle.memory.specs.Laws.{split}
 use Rattle.update.specs.declared.Budget.{Budget}
-use Rattle.update.specs.ListLaws.{clash, tests}
 use Rattle.update.specs.Pages.{holds}
 use Rattle.update.specs.Update.{Over, budget_bytes, touch, raised, Tried, accepted, refused, passing, marked, try_touch, room}
 

@@ -14,7 +14,7 @@ use Rattle.update.specs.ListLaws.{tests, length-tabulate}
 use Rattle.update.specs.Pages.{holds, put_page, partial, span}
 use Rattle.update.specs.PageLaws.{Sized, sized-put_page, sized_keep, put_same, put_more, keep_few, drop-few, sized-drop_page, sized-drop, sized_snoc}
 use Rattle.update.specs.Image.{image_page}
-use Rattle.update.specs.Update.{Over, push_run, raw, touch, blank, copy, stretch, chop, whole_page, look_up, read_over, Tried, accepted, refused, and_then, left, sized, keep_size, passing, marked, try_touch, try_touch_all, room, try_patch, try_finish, try_grow, try_grow_to, try_tail, try_chop, try_truncate, try_write}
+use Rattle.update.specs.Update.{Over, push_run, raw, touch, blank, copy, stretch, chop, whole_page, look_up, read_over, Tried, accepted, refused, and_then, left, sized, keep_size, passing, marked, try_touch, try_touch_all, try_patch, try_finish, try_grow, try_grow_to, try_tail, try_chop, try_truncate, try_write}
 
 -- page size, frames, entries, cache pages
 pub record Room (P F R C : ℕ) (v : Over) : Type 0 where

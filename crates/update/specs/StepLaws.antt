@@ -1,5 +1,5 @@
 -- The parts of a write and of a truncation, one after another, are the whole of it.
-use Rattle.std.specs.Prelude.{◌≡◌, Bool, ◌&&◌, List, ltb, eqb}
+use Rattle.std.specs.Prelude.{◌≡◌, Bool, ◌&&◌, List, ltb, eqb, Ok, Err}
 use Rattle.std.proofs.Math.Path.{refl, ap}
 use Rattle.std.proofs.Common.{sym, ◌∙◌, subst, lt-ltb, le-ltb}
 use Prim.Native.Nat.{ℕ, zero, suc, ◌+◌, ◌*◌, ◌/◌, ◌≤◌, ◌<◌, max}
@@ -12,7 +12,6 @@ use Rattle.config.specs.declared.refusal.Refusal.{Refusal}
 use Rattle.memory.specs.Laws.{split}
 use Rattle.update.specs.declared.Overlay.{Overlay}
 use Rattle.update.specs.declared.Image.{Image}
-use Rattle.update.specs.declared.Verdict.TheVariants.{Accepted, Refused}
 use Rattle.update.specs.Lists.{tabulate}
 use Rattle.update.specs.Pages.{holds, put_page, partial, span}
 use Rattle.update.specs.Image.{image_in}
@@ -21,7 +20,7 @@ use Rattle.update.specs.Update.{Over, push_run, raw, touch, blank, copy, chop, w
 use Rattle.update.specs.Rooms.{try_all, try_patch_lem, try_finish_lem, try_grow_lem, try_chop_lem, size_room}
 use Rattle.update.specs.Buffers.{Buffers, frame_count, entry_count, cached, view, overlay_of, put_back}
 use Rattle.update.specs.Laid.{Laid, laid, leave, Fits, patched, finished, ended, grown_to, tailed, chopped, cut_to, resized, puts, wrote, grown}
-use Rattle.update.specs.LeaveLaws.{Ok, Fit, view_room, view_dirty, leave_alike, step_frames, step_entries, step_next, then_accepted, then_refused}
+use Rattle.update.specs.LeaveLaws.{IsAccepted, Fit, view_room, view_dirty, leave_alike, step_frames, step_entries, step_next, then_accepted, then_refused}
 use Rattle.update.specs.PageLaws.{keep_few, put_same, put_more}
 
 abbrev pub with_size : ℕ → Overlay → Overlay
@@ -98,19 +97,19 @@ module _ (P C : ℕ) (pos : 0 < P) (v : Overlay) (l : Buffers) (fits : Fits P C 
 
   -- a change of what t left, with the frames and entries that are lent then
   next : (n : ℕ) (t : Tried) (f : ℕ → ℕ → Over → Tried) → n ≤ F → Fit' (left t) → ((w : Over) → length w.recorded ≤ length (left (f F R w)).recorded)
-      → (v1 : Overlay) (l1 : Buffers) → leave P C v l n t ≡ laid v1 l1 Accepted
+      → (v1 : Overlay) (l1 : Buffers) → leave P C v l n t ≡ laid v1 l1 (Ok tt)
       → leave P C v1 l1 v1.dirty (f (frame_count P l1) (entry_count l1) (view P C v1 l1)) ≡ leave P C v l (max n (length (left t).dirty)) (and_then t (f F R))
   next n t f busy r g v1 l1 e =
-      let a : frame_count P l1 ≡ F = step_frames P C pos v l fits n t busy r v1 l1 Accepted e in
-      let b : entry_count l1 ≡ R = step_entries P C pos v l fits n t busy r v1 l1 Accepted e in
+      let a : frame_count P l1 ≡ F = step_frames P C pos v l fits n t busy r v1 l1 (Ok tt) e in
+      let b : entry_count l1 ≡ R = step_entries P C pos v l fits n t busy r v1 l1 (Ok tt) e in
       ap (λ (x : ℕ). leave P C v1 l1 v1.dirty (f x (entry_count l1) (view P C v1 l1))) a
       ∙ ap (λ (x : ℕ). leave P C v1 l1 v1.dirty (f F x (view P C v1 l1))) b
-      ∙ step_next P C pos v l fits n t busy r v1 l1 Accepted e (f F R) g
+      ∙ step_next P C pos v l fits n t busy r v1 l1 (Ok tt) e (f F R) g
       ∙ ap (leave P C v l (max n (length (left t).dirty))) (sym (then_accepted P C pos v l fits n t (f F R) v1 l1 e))
 
   -- the same where f drops no page
   pub next_more : (t : Tried) (f : ℕ → ℕ → Over → Tried) → Fit' (left t) → ((w : Over) → More w (left (f F R w))) → ((w : Over) → Fit' w → Fit' (left (f F R w)))
-      → (v1 : Overlay) (l1 : Buffers) → leave P C v l v.dirty t ≡ laid v1 l1 Accepted
+      → (v1 : Overlay) (l1 : Buffers) → leave P C v l v.dirty t ≡ laid v1 l1 (Ok tt)
       → leave P C v1 l1 v1.dirty (f (frame_count P l1) (entry_count l1) (view P C v1 l1)) ≡ leave P C v l v.dirty (and_then t (f F R))
   next_more t f r g k v1 l1 e =
       let x : Over = left (f F R (left t)) in
@@ -119,7 +118,7 @@ module _ (P C : ℕ) (pos : 0 < P) (v : Overlay) (l : Buffers) (fits : Fits P C 
       next v.dirty t f fits.0 r (λ w. (g w).1) v1 l1 e
       ∙ leave_alike P C pos v l fits (max v.dirty (length (left t).dirty)) v.dirty (and_then t (f F R)) (rw m (k (left t) r).sized) (rw m z)
 
-  pub stop : (n : ℕ) (t : Tried) (f : Over → Tried) (v1 : Overlay) (l1 : Buffers) (r : Refusal) → leave P C v l n t ≡ laid v1 l1 (Refused r) → leave P C v l n (and_then t f) ≡ laid v1 l1 (Refused r)
+  pub stop : (n : ℕ) (t : Tried) (f : Over → Tried) (v1 : Overlay) (l1 : Buffers) (r : Refusal) → leave P C v l n t ≡ laid v1 l1 (Err r) → leave P C v l n (and_then t f) ≡ laid v1 l1 (Err r)
   stop n t f v1 l1 r e = ap (leave P C v l n) (then_refused P C pos v l fits n t f v1 l1 r e) ∙ e
 
   module _ (M : ℕ) (i : Image) (mem : List ℕ) where
@@ -133,12 +132,12 @@ module _ (P C : ℕ) (pos : 0 < P) (v : Overlay) (l : Buffers) (fits : Fits P C 
     K = length (cached P C v.cache)
 
     -- the ends of growth
-    pub ended_next : (z n : ℕ) (v1 : Overlay) (l1 : Buffers) → patched P C M i mem v l z n ≡ laid v1 l1 Accepted → finished P C M i mem v1 l1 z n ≡ ended P C M i mem v l z n
+    pub ended_next : (z n : ℕ) (v1 : Overlay) (l1 : Buffers) → patched P C M i mem v l z n ≡ laid v1 l1 (Ok tt) → finished P C M i mem v1 l1 z n ≡ ended P C M i mem v l z n
     unfolding patched finished ended
     ended_next z n v1 l1 e = next_more (try_patch P M F R b z n U) (λ x y. try_finish P M x y b z n)
         (try_patch_lem P M F R K b z n U (view_room P C pos v l fits)) (λ w. finish_more P M F R b z n w) (λ w k. try_finish_lem P M F R K b z n w k) v1 l1 e
 
-    pub ended_stop : (z n : ℕ) (v1 : Overlay) (l1 : Buffers) (r : Refusal) → patched P C M i mem v l z n ≡ laid v1 l1 (Refused r) → ended P C M i mem v l z n ≡ laid v1 l1 (Refused r)
+    pub ended_stop : (z n : ℕ) (v1 : Overlay) (l1 : Buffers) (r : Refusal) → patched P C M i mem v l z n ≡ laid v1 l1 (Err r) → ended P C M i mem v l z n ≡ laid v1 l1 (Err r)
     unfolding patched ended
     ended_stop z n v1 l1 r e = stop v.dirty (try_patch P M F R b z n U) (try_finish P M F R b z n) v1 l1 r e
 
@@ -163,7 +162,7 @@ module _ (P C : ℕ) (pos : 0 < P) (v : Overlay) (l : Buffers) (fits : Fits P C 
     unfolding wrote puts
     wrote_inside o bs h = ap (λ (t : Tried). leave P C v l v.dirty (and_then t (pages F R o bs))) (rests (o + length bs) h)
 
-    pub wrote_next : (o : ℕ) (bs : List ℕ) → v.size < o + length bs → (v1 : Overlay) (l1 : Buffers) → grown P C M i mem v l (o + length bs) ≡ laid v1 l1 Accepted
+    pub wrote_next : (o : ℕ) (bs : List ℕ) → v.size < o + length bs → (v1 : Overlay) (l1 : Buffers) → grown P C M i mem v l (o + length bs) ≡ laid v1 l1 (Ok tt)
         → puts P C M i mem v1 l1 o bs ≡ wrote P C M i mem v l o bs
     unfolding wrote puts grown
     wrote_next o bs h v1 l1 e = next_more (try_grow_to P M F R b (o + length bs) U) (λ x y. pages x y o bs)
@@ -172,8 +171,8 @@ module _ (P C : ℕ) (pos : 0 < P) (v : Overlay) (l : Buffers) (fits : Fits P C 
         (λ w k. try_all P M F R K b (not (whole_page P o (length bs))) (copy P o bs) (o / P) (span P o (length bs)) w k)
         v1 l1 (ap (leave P C v l v.dirty) (grows (o + length bs) h) ∙ e)
 
-    pub wrote_stop : (o : ℕ) (bs : List ℕ) → v.size < o + length bs → (v1 : Overlay) (l1 : Buffers) (r : Refusal) → grown P C M i mem v l (o + length bs) ≡ laid v1 l1 (Refused r)
-        → wrote P C M i mem v l o bs ≡ laid v1 l1 (Refused r)
+    pub wrote_stop : (o : ℕ) (bs : List ℕ) → v.size < o + length bs → (v1 : Overlay) (l1 : Buffers) (r : Refusal) → grown P C M i mem v l (o + length bs) ≡ laid v1 l1 (Err r)
+        → wrote P C M i mem v l o bs ≡ laid v1 l1 (Err r)
     unfolding wrote grown
     wrote_stop o bs h v1 l1 r e = stop v.dirty (try_grow_to P M F R b (o + length bs) U) (pages F R o bs) v1 l1 r (ap (leave P C v l v.dirty) (grows (o + length bs) h) ∙ e)
 
@@ -199,7 +198,7 @@ module _ (P C : ℕ) (pos : 0 < P) (v : Overlay) (l : Buffers) (fits : Fits P C 
     unfolding try_chop chop
     chop_recs n w = split (ltb (count P n) (count P w.size) && leb R (length w.recorded)) (λ t. rw (try_chop, t) (omega arith)) (λ f. rw (try_chop, f) (push_less (count P n) (count P w.size) w.recorded))
 
-    pub cut_next : (n : ℕ) (v1 : Overlay) (l1 : Buffers) → chopped P C M v l n ≡ laid v1 l1 Accepted → tailed P C M i mem v1 l1 n ≡ cut_to P C M i mem v l n
+    pub cut_next : (n : ℕ) (v1 : Overlay) (l1 : Buffers) → chopped P C M v l n ≡ laid v1 l1 (Ok tt) → tailed P C M i mem v1 l1 n ≡ cut_to P C M i mem v l n
     unfolding chopped tailed cut_to
     cut_next n v1 l1 e =
         let t : Tried = try_chop P M F R n U in
@@ -210,7 +209,7 @@ module _ (P C : ℕ) (pos : 0 < P) (v : Overlay) (l : Buffers) (fits : Fits P C 
         next v.dirty t (λ x y. try_tail P M x y b n) fits.0 r (λ w. (tail_more P M F R b n w).1) v1 l1 e
         ∙ ap (λ (x : ℕ). leave P C v l x (and_then t f)) few
 
-    pub cut_stop : (n : ℕ) (v1 : Overlay) (l1 : Buffers) (r : Refusal) → chopped P C M v l n ≡ laid v1 l1 (Refused r) → cut_to P C M i mem v l n ≡ laid v1 l1 (Refused r)
+    pub cut_stop : (n : ℕ) (v1 : Overlay) (l1 : Buffers) (r : Refusal) → chopped P C M v l n ≡ laid v1 l1 (Err r) → cut_to P C M i mem v l n ≡ laid v1 l1 (Err r)
     unfolding chopped cut_to
     cut_stop n v1 l1 r e = stop v.dirty (try_chop P M F R n U) (try_tail P M F R b n) v1 l1 r e
 
@@ -238,13 +237,13 @@ module _ (P C : ℕ) (pos : 0 < P) (v : Overlay) (l : Buffers) (fits : Fits P C 
     reach : (n : ℕ) → truncate_reach P M F R b n U ≡ length (left (T n)).dirty
     reach n = ap length (sym (size_dirty v.size (try_grow_to P M F R b n U)))
 
-    pub resized_next : (n : ℕ) (v1 : Overlay) (l1 : Buffers) → grown_to P C M i mem v l n ≡ laid v1 l1 Accepted → cut_to P C M i mem v1 l1 n ≡ resized P C M i mem v l n
+    pub resized_next : (n : ℕ) (v1 : Overlay) (l1 : Buffers) → grown_to P C M i mem v l n ≡ laid v1 l1 (Ok tt) → cut_to P C M i mem v1 l1 n ≡ resized P C M i mem v l n
     unfolding grown_to cut_to resized try_truncate view
     resized_next n v1 l1 e =
         next v.dirty (T n) (cuts n) fits.0 (T-fit n) (λ w. cuts_recs n w) v1 l1 e
         ∙ ap (λ (x : ℕ). leave P C v l (max v.dirty x) (and_then (T n) (cuts n F R))) (sym (reach n))
 
-    pub resized_stop : (n : ℕ) (v1 : Overlay) (l1 : Buffers) (r : Refusal) → grown_to P C M i mem v l n ≡ laid v1 l1 (Refused r) → resized P C M i mem v l n ≡ laid v1 l1 (Refused r)
+    pub resized_stop : (n : ℕ) (v1 : Overlay) (l1 : Buffers) (r : Refusal) → grown_to P C M i mem v l n ≡ laid v1 l1 (Err r) → resized P C M i mem v l n ≡ laid v1 l1 (Err r)
     unfolding grown_to resized try_truncate view
     resized_stop n v1 l1 r e =
         let x : ℕ = truncate_reach P M F R b n U in
@@ -253,12 +252,12 @@ module _ (P C : ℕ) (pos : 0 < P) (v : Overlay) (l : Buffers) (fits : Fits P C 
         ∙ e
 
   -- a refused change whose size goes back
-  pub keep_accepted : (z n : ℕ) (t : Tried) (v1 : Overlay) (l1 : Buffers) → leave P C v l n t ≡ laid v1 l1 Accepted → leave P C v l n (keep_size z t) ≡ laid v1 l1 Accepted
+  pub keep_accepted : (z n : ℕ) (t : Tried) (v1 : Overlay) (l1 : Buffers) → leave P C v l n t ≡ laid v1 l1 (Ok tt) → leave P C v l n (keep_size z t) ≡ laid v1 l1 (Ok tt)
   unfolding leave
   keep_accepted z n (accepted w) v1 l1 e = e
-  keep_accepted z n (refused r w) v1 l1 e = absurd (subst (λ (x : Laid). Ok x.verdict) (sym e) tt)
+  keep_accepted z n (refused r w) v1 l1 e = absurd (subst (λ (x : Laid). IsAccepted x.verdict) (sym e) tt)
 
-  pub keep_refused : (z n : ℕ) (t : Tried) (v1 : Overlay) (l1 : Buffers) (r : Refusal) → leave P C v l n t ≡ laid v1 l1 (Refused r) → leave P C v l n (keep_size z t) ≡ laid (with_size z v1) l1 (Refused r)
+  pub keep_refused : (z n : ℕ) (t : Tried) (v1 : Overlay) (l1 : Buffers) (r : Refusal) → leave P C v l n t ≡ laid v1 l1 (Err r) → leave P C v l n (keep_size z t) ≡ laid (with_size z v1) l1 (Err r)
   unfolding leave sized overlay_of put_back
-  keep_refused z n (accepted w) v1 l1 r e = absurd (subst (λ (x : Laid). Ok x.verdict) e tt)
+  keep_refused z n (accepted w) v1 l1 r e = absurd (subst (λ (x : Laid). IsAccepted x.verdict) e tt)
   keep_refused z n (refused q w) v1 l1 r e = ap (λ (x : Laid). laid (with_size z x.overlay) x.bufs x.verdict) e

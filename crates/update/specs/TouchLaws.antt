@@ -1,6 +1,6 @@
 -- A page made dirty in the lent slices, by each way out: what is in the slices then.
 use Rattle.std.proofs.Math.Path.{◌≡◌, sym, ap}
-use Rattle.std.specs.Prelude.{refl, Bool, not, cond, ◌&&◌, leb, eqb, take}
+use Rattle.std.specs.Prelude.{refl, Bool, not, cond, ◌&&◌, leb, eqb, take, Ok, Err}
 use Rattle.std.proofs.Common.{◌∙◌, subst, length-take-le}
 use Prim.Native.Nat.{ℕ, suc, ◌+◌, ◌-◌, ◌*◌, ◌/◌, ◌%◌, ◌≤◌, ◌<◌}
 use Rattle.std.proofs.Math.Nat.{suc-mul, div-add-mod', mul-le-mul_right, mul-add-mod_self_right, mod-eq_of_lt}
@@ -22,9 +22,8 @@ use Rattle.update.specs.declared.Overlay.{Overlay}
 use Rattle.update.specs.declared.CleanCache.{CleanCache}
 use Rattle.update.specs.declared.Budget.{Budget}
 use Rattle.update.specs.declared.Image.{Image}
-use Rattle.update.specs.declared.Verdict.{Verdict}
-use Rattle.update.specs.declared.Verdict.TheVariants.{Accepted, Refused}
-use Rattle.update.specs.declared.Admission.{Admission}
+use Rattle.update.specs.Verdict.{Verdict}
+use Rattle.update.specs.Admit.{Admission}
 use Rattle.update.specs.Lists.{refill, tabulate, inside}
 use Rattle.update.specs.ListLaws.{inside_yes, inside_lo, inside_hi, length-tabulate, tabulate_at, tabulate_alike, refill_same, refill_more, refill_part, resize-take, overwrite_own, overwrite_page, tabulate_own}
 use Rattle.update.specs.Pages.{Page, page_numbers, flat, holds, put_page, drop_page, place_of, page_byte, pages_in}
@@ -46,21 +45,21 @@ copy_whole P o bs g e = tabulate_alike P _ _ (λ j h.
 
 -- ## What is asked of a budget and of the frames
 
-never : (r : Refusal) → Refused r ≡ Accepted → ⊥
+never : (r : Refusal) → ◌≡◌ {A = Verdict} (Err r) (Ok tt) → ⊥
 never r e = let z : ◌≡◌ {A = ℕ} 0 1 = cc in omega arith
 
-why : (q r : Refusal) → Refused q ≡ Refused r → q ≡ r
+why : (q r : Refusal) → ◌≡◌ {A = Verdict} (Err q) (Err r) → q ≡ r
 why q r e = cc
 
 -- refused or not
 by_verdict : {X : Type 0} (g : Budget) (a : Verdict)
-    → ((r : Refusal) → ◌≡◌ {A = Admission} (record { budget = g; verdict = a }) (record { budget = g; verdict = Refused r }) → X)
-    → (◌≡◌ {A = Admission} (record { budget = g; verdict = a }) (record { budget = g; verdict = Accepted }) → X) → X
-by_verdict g Accepted f h = h refl
-by_verdict g (Refused r) f h = f r refl
+    → ((r : Refusal) → ◌≡◌ {A = Admission} (record { budget = g; verdict = a }) (record { budget = g; verdict = Err r }) → X)
+    → (◌≡◌ {A = Admission} (record { budget = g; verdict = a }) (record { budget = g; verdict = Ok tt }) → X) → X
+by_verdict g (Ok u) f h = h refl
+by_verdict g (Err r) f h = f r refl
 
 -- a page is admitted only where a frame is free
-pub free_frame : (P F n : ℕ) (g h : Budget) → admitted P F n g ≡ record { budget = h; verdict = Accepted } → n < F
+pub free_frame : (P F n : ℕ) (g h : Budget) → admitted P F n g ≡ record { budget = h; verdict = Ok tt } → n < F
 unfolding admitted
 free_frame P F n g h e = split (eqb (passing P (n + 1) g) 0)
     (λ t. split (leb F n)
@@ -76,25 +75,25 @@ asking P F n g deny allow =
     (allow (raised P (n + 1) g)))
 
 module _ (P F n : ℕ) (g h : Budget) (deny : Refusal → Budget → Tried) (allow : Budget → Tried) where
-  asked_no : (r : Refusal) → admitted P F n g ≡ record { budget = h; verdict = Refused r } → asking P F n g deny allow ≡ deny r h
+  asked_no : (r : Refusal) → admitted P F n g ≡ record { budget = h; verdict = Err r } → asking P F n g deny allow ≡ deny r h
   unfolding admitted
   asked_no r e = split (eqb (passing P (n + 1) g) 0)
       (λ t. split (leb F n)
-      (λ u. let w : ◌≡◌ {A = Admission} (record { budget = g; verdict = Refused FramesFull }) (record { budget = h; verdict = Refused r }) = rw (t, u) at e in
+      (λ u. let w : ◌≡◌ {A = Admission} (record { budget = g; verdict = Err FramesFull }) (record { budget = h; verdict = Err r }) = rw (t, u) at e in
       rw (t, u) (λ k. deny (why FramesFull r (ap (λ (a : Admission). a.verdict) w) k) (w k).budget))
-      (λ u. let w : ◌≡◌ {A = Admission} (record { budget = raised P (n + 1) g; verdict = Accepted }) (record { budget = h; verdict = Refused r }) = rw (t, u) at e in
+      (λ u. let w : ◌≡◌ {A = Admission} (record { budget = raised P (n + 1) g; verdict = Ok tt }) (record { budget = h; verdict = Err r }) = rw (t, u) at e in
       absurd (never r (sym (ap (λ (a : Admission). a.verdict) w)))))
-      (λ f. let w : ◌≡◌ {A = Admission} (record { budget = with_mark (passing P (n + 1) g) g; verdict = Refused BudgetExceeded }) (record { budget = h; verdict = Refused r }) = rw f at e in
+      (λ f. let w : ◌≡◌ {A = Admission} (record { budget = with_mark (passing P (n + 1) g) g; verdict = Err BudgetExceeded }) (record { budget = h; verdict = Err r }) = rw f at e in
       rw f (λ k. deny (why BudgetExceeded r (ap (λ (a : Admission). a.verdict) w) k) (w k).budget))
 
-  asked_yes : admitted P F n g ≡ record { budget = h; verdict = Accepted } → asking P F n g deny allow ≡ allow h
+  asked_yes : admitted P F n g ≡ record { budget = h; verdict = Ok tt } → asking P F n g deny allow ≡ allow h
   unfolding admitted
   asked_yes e = split (eqb (passing P (n + 1) g) 0)
       (λ t. split (leb F n)
       (λ u. absurd (omega (arith, leb-true F n u, free_frame P F n g h e)))
-      (λ u. let w : ◌≡◌ {A = Admission} (record { budget = raised P (n + 1) g; verdict = Accepted }) (record { budget = h; verdict = Accepted }) = rw (t, u) at e in
+      (λ u. let w : ◌≡◌ {A = Admission} (record { budget = raised P (n + 1) g; verdict = Ok tt }) (record { budget = h; verdict = Ok tt }) = rw (t, u) at e in
       rw (t, u) (ap (λ (a : Admission). allow a.budget) w)))
-      (λ f. let w : ◌≡◌ {A = Admission} (record { budget = with_mark (passing P (n + 1) g) g; verdict = Refused BudgetExceeded }) (record { budget = h; verdict = Accepted }) = rw f at e in
+      (λ f. let w : ◌≡◌ {A = Admission} (record { budget = with_mark (passing P (n + 1) g) g; verdict = Err BudgetExceeded }) (record { budget = h; verdict = Ok tt }) = rw f at e in
       absurd (never BudgetExceeded (ap (λ (a : Admission). a.verdict) w)))
 
 -- bytes written over the frames
@@ -291,7 +290,7 @@ module _ (P C : ℕ) (pos : 0 < P) (v : Overlay) (l : Buffers) (fits : Fits P C 
 
     pub touched_held : place_in v l p < v.dirty → (loaded : Bool) (u : ℕ → ℕ → ℕ)
         → touched P C M i mem v l loaded u p
-        ≡ laid v (bufs (overwrite (place_in v l p * P) (tabulate P (λ j. u (p * P + j) (get_or l.frames (place_in v l p * P + j) 0))) l.frames) l.numbers l.clean l.recs) Accepted
+        ≡ laid v (bufs (overwrite (place_in v l p * P) (tabulate P (λ j. u (p * P + j) (get_or l.frames (place_in v l p * P + j) 0))) l.frames) l.numbers l.clean l.recs) (Ok tt)
     unfolding leave
     touched_held h loaded u =
         let t : holds D p ≡ true = held_here p h in
@@ -304,18 +303,18 @@ module _ (P C : ℕ) (pos : 0 < P) (v : Overlay) (l : Buffers) (fits : Fits P C 
         rw (numbers_same p (bytes_of u) D t, numbers-pages_in P ns l.frames) (refill_same v.dirty l.numbers few_numbers) in
         touched_try loaded u
         ∙ ap (leave P C v l v.dirty) (try_held loaded u t)
-        ∙ left_with (put_page p (bytes_of u) D) Q v.budget Accepted
-        ∙ (λ k. laid (moved v (n k) (cache_same k) v.budget) (bufs (ff k) (fn k) (clean_same k) l.recs) Accepted)
-        ∙ ap (λ (x : List ℕ). laid v (bufs (overwrite (place_in v l p * P) x l.frames) l.numbers l.clean l.recs) Accepted) (held_bytes h u)
+        ∙ left_with (put_page p (bytes_of u) D) Q v.budget (Ok tt)
+        ∙ (λ k. laid (moved v (n k) (cache_same k) v.budget) (bufs (ff k) (fn k) (clean_same k) l.recs) (Ok tt))
+        ∙ ap (λ (x : List ℕ). laid v (bufs (overwrite (place_in v l p * P) x l.frames) l.numbers l.clean l.recs) (Ok tt)) (held_bytes h u)
 
     -- it is left as it is
-    pub load_held : place_in v l p < v.dirty → (loaded : Bool) → touched P C M i mem v l loaded same p ≡ laid v l Accepted
-    load_held h loaded = touched_held h loaded same ∙ ap (λ (x : List ℕ). laid v (bufs x l.numbers l.clean l.recs) Accepted) (overwrite_own (place_in v l p * P) P l.frames)
+    pub load_held : place_in v l p < v.dirty → (loaded : Bool) → touched P C M i mem v l loaded same p ≡ laid v l (Ok tt)
+    load_held h loaded = touched_held h loaded same ∙ ap (λ (x : List ℕ). laid v (bufs x l.numbers l.clean l.recs) (Ok tt)) (overwrite_own (place_in v l p * P) P l.frames)
 
     -- ## A page that is not dirty
 
-    pub load_refused : v.dirty ≤ place_in v l p → (g : Budget) (r : Refusal) → admitted P (frame_count P l) v.dirty v.budget ≡ record { budget = g; verdict = Refused r }
-        → (loaded : Bool) (u : ℕ → ℕ → ℕ) → touched P C M i mem v l loaded u p ≡ laid (moved v v.dirty v.cache g) l (Refused r)
+    pub load_refused : v.dirty ≤ place_in v l p → (g : Budget) (r : Refusal) → admitted P (frame_count P l) v.dirty v.budget ≡ record { budget = g; verdict = Err r }
+        → (loaded : Bool) (u : ℕ → ℕ → ℕ) → touched P C M i mem v l loaded u p ≡ laid (moved v v.dirty v.cache g) l (Err r)
     unfolding leave
     load_refused h g r e loaded u =
         let n : length D ≡ v.dirty = length-pages_in P ns l.frames ∙ length-ns in
@@ -323,8 +322,8 @@ module _ (P C : ℕ) (pos : 0 < P) (v : Overlay) (l : Buffers) (fits : Fits P C 
         let fn : refill v.dirty (page_numbers D) l.numbers ≡ l.numbers = rw (numbers-pages_in P ns l.frames) (refill_same v.dirty l.numbers few_numbers) in
         touched_try loaded u
         ∙ ap (leave P C v l v.dirty) (try_free loaded u (free_here p h) ∙ asked_no P F v.dirty v.budget g denied (taken loaded u) r e)
-        ∙ left_with D Q g (Refused r)
-        ∙ (λ k. laid (moved v (n k) (cache_same k) g) (bufs (ff k) (fn k) (clean_same k) l.recs) (Refused r))
+        ∙ left_with D Q g (Err r)
+        ∙ (λ k. laid (moved v (n k) (cache_same k) g) (bufs (ff k) (fn k) (clean_same k) l.recs) (Err r))
 
     -- the page as it is loaded
     abbrev loads : LoadOut
@@ -354,7 +353,7 @@ module _ (P C : ℕ) (pos : 0 < P) (v : Overlay) (l : Buffers) (fits : Fits P C 
         byte_clean P pos D (p * P + j) _ (rw q (free_here p h)) ∙ rw q (sym (load_byte j k)) in
         ap (u (p * P + j)) e)
 
-    module _ (free : v.dirty ≤ place_in v l p) (g : Budget) (yes : admitted P (frame_count P l) v.dirty v.budget ≡ record { budget = g; verdict = Accepted }) where
+    module _ (free : v.dirty ≤ place_in v l p) (g : Budget) (yes : admitted P (frame_count P l) v.dirty v.budget ≡ record { budget = g; verdict = Ok tt }) where
       room_left : v.dirty < F
       room_left = free_frame P F v.dirty v.budget g yes
 
@@ -367,7 +366,7 @@ module _ (P C : ℕ) (pos : 0 < P) (v : Overlay) (l : Buffers) (fits : Fits P C 
       touched_new : (loaded : Bool) (u : ℕ → ℕ → ℕ)
           → touched P C M i mem v l loaded u p
           ≡ laid (moved v (v.dirty + 1) (cache_laid P C v.cache l.clean (kept loaded)).cache g)
-          (bufs (overwrite (v.dirty * P) (tabulate P (λ j. u (p * P + j) (get_or loads.frame j 0))) l.frames) (set l.numbers v.dirty p) (cache_laid P C v.cache l.clean (kept loaded)).clean l.recs) Accepted
+          (bufs (overwrite (v.dirty * P) (tabulate P (λ j. u (p * P + j) (get_or loads.frame j 0))) l.frames) (set l.numbers v.dirty p) (cache_laid P C v.cache l.clean (kept loaded)).clean l.recs) (Ok tt)
       unfolding leave
       touched_new loaded u =
           let t : holds D p ≡ false = free_here p free in
@@ -380,33 +379,33 @@ module _ (P C : ℕ) (pos : 0 < P) (v : Overlay) (l : Buffers) (fits : Fits P C 
           (refill_more v.dirty (p ∷ []) l.numbers number_free ∙ sym (set_overwrite v.dirty p l.numbers (omega (arith, number_free)))) in
           touched_try loaded u
           ∙ ap (leave P C v l v.dirty) (try_free loaded u t ∙ asked_yes P F v.dirty v.budget g denied (taken loaded u) yes)
-          ∙ left_with (put_page p (bytes_of u) D) (kept loaded) g Accepted
-          ∙ (λ k. laid (moved v (n k) (cache_laid P C v.cache l.clean (kept loaded)).cache g) (bufs (ff k) (fn k) (cache_laid P C v.cache l.clean (kept loaded)).clean l.recs) Accepted)
+          ∙ left_with (put_page p (bytes_of u) D) (kept loaded) g (Ok tt)
+          ∙ (λ k. laid (moved v (n k) (cache_laid P C v.cache l.clean (kept loaded)).cache g) (bufs (ff k) (fn k) (cache_laid P C v.cache l.clean (kept loaded)).clean l.recs) (Ok tt))
           ∙ ap (λ (x : List ℕ). laid (moved v (v.dirty + 1) (cache_laid P C v.cache l.clean (kept loaded)).cache g)
-          (bufs (overwrite (v.dirty * P) x l.frames) (set l.numbers v.dirty p) (cache_laid P C v.cache l.clean (kept loaded)).clean l.recs) Accepted) (free_bytes free u)
+          (bufs (overwrite (v.dirty * P) x l.frames) (set l.numbers v.dirty p) (cache_laid P C v.cache l.clean (kept loaded)).clean l.recs) (Ok tt)) (free_bytes free u)
 
       pub load_new : touched P C M i mem v l true same p
           ≡ laid (moved v (v.dirty + 1) (load_laid P C v.cache l.clean (image_in P i mem) (covers (runs_in v.recorded l.recs) p) p).cache g)
           (bufs (overwrite (v.dirty * P) (load_laid P C v.cache l.clean (image_in P i mem) (covers (runs_in v.recorded l.recs) p) p).frame l.frames) (set l.numbers v.dirty p)
-          (load_laid P C v.cache l.clean (image_in P i mem) (covers (runs_in v.recorded l.recs) p) p).clean l.recs) Accepted
+          (load_laid P C v.cache l.clean (image_in P i mem) (covers (runs_in v.recorded l.recs) p) p).clean l.recs) (Ok tt)
       load_new = touched_new true same
-          ∙ (λ k. laid (moved v (v.dirty + 1) (load_cache k) g) (bufs (overwrite (v.dirty * P) (tabulate_own P loads.frame load-length k) l.frames) (set l.numbers v.dirty p) (load_clean k) l.recs) Accepted)
+          ∙ (λ k. laid (moved v (v.dirty + 1) (load_cache k) g) (bufs (overwrite (v.dirty * P) (tabulate_own P loads.frame load-length k) l.frames) (set l.numbers v.dirty p) (load_clean k) l.recs) (Ok tt))
 
       -- without loading
       pub whole_new : (bs : List ℕ) → length bs ≡ P → touched P C M i mem v l false (copy P (p * P) bs) p
-          ≡ laid (moved v (v.dirty + 1) v.cache g) (bufs (overwrite (v.dirty * P) bs l.frames) (set l.numbers v.dirty p) l.clean l.recs) Accepted
+          ≡ laid (moved v (v.dirty + 1) v.cache g) (bufs (overwrite (v.dirty * P) bs l.frames) (set l.numbers v.dirty p) l.clean l.recs) (Ok tt)
       whole_new bs e = touched_new false (copy P (p * P) bs)
-          ∙ (λ k. laid (moved v (v.dirty + 1) (cache_same k) g) (bufs (overwrite (v.dirty * P) (copy_whole P (p * P) bs (λ j. get_or loads.frame j 0) e k) l.frames) (set l.numbers v.dirty p) (clean_same k) l.recs) Accepted)
+          ∙ (λ k. laid (moved v (v.dirty + 1) (cache_same k) g) (bufs (overwrite (v.dirty * P) (copy_whole P (p * P) bs (λ j. get_or loads.frame j 0) e k) l.frames) (set l.numbers v.dirty p) (clean_same k) l.recs) (Ok tt))
 
     pub whole_held : place_in v l p < v.dirty → (bs : List ℕ) → length bs ≡ P → touched P C M i mem v l false (copy P (p * P) bs) p
-        ≡ laid v (bufs (overwrite (place_in v l p * P) bs l.frames) l.numbers l.clean l.recs) Accepted
+        ≡ laid v (bufs (overwrite (place_in v l p * P) bs l.frames) l.numbers l.clean l.recs) (Ok tt)
     whole_held h bs e = touched_held h false (copy P (p * P) bs)
-        ∙ ap (λ (x : List ℕ). laid v (bufs (overwrite (place_in v l p * P) x l.frames) l.numbers l.clean l.recs) Accepted) (copy_whole P (p * P) bs (λ j. get_or l.frames (place_in v l p * P + j) 0) e)
+        ∙ ap (λ (x : List ℕ). laid v (bufs (overwrite (place_in v l p * P) x l.frames) l.numbers l.clean l.recs) (Ok tt)) (copy_whole P (p * P) bs (λ j. get_or l.frames (place_in v l p * P + j) 0) e)
 
     -- ## The page loaded, and then changed
 
-    pub refused_alike : (u : ℕ → ℕ → ℕ) (r : Refusal) (v' : Overlay) (l' : Buffers) → touched P C M i mem v l true same p ≡ laid v' l' (Refused r)
-        → touched P C M i mem v l true u p ≡ laid v' l' (Refused r)
+    pub refused_alike : (u : ℕ → ℕ → ℕ) (r : Refusal) (v' : Overlay) (l' : Buffers) → touched P C M i mem v l true same p ≡ laid v' l' (Err r)
+        → touched P C M i mem v l true u p ≡ laid v' l' (Err r)
     refused_alike u r v' l' e = below (place_in v l p) v.dirty
         (λ lo. absurd (never r (ap (λ (y : Laid). y.verdict) (sym e ∙ load_held lo true))))
         (λ hi. by_verdict (admitted P F v.dirty v.budget).budget (admitted P F v.dirty v.budget).verdict
@@ -414,7 +413,7 @@ module _ (P C : ℕ) (pos : 0 < P) (v : Overlay) (l : Buffers) (fits : Fits P C 
         (λ d. absurd (never r (ap (λ (y : Laid). y.verdict) (sym e ∙ load_new hi _ d)))))
 
     -- its frame lies in the pool
-    pub frame_loaded : (v' : Overlay) (l' : Buffers) → touched P C M i mem v l true same p ≡ laid v' l' Accepted → place_in v l p * P + P ≤ length l.frames
+    pub frame_loaded : (v' : Overlay) (l' : Buffers) → touched P C M i mem v l true same p ≡ laid v' l' (Ok tt) → place_in v l p * P + P ≤ length l.frames
     frame_loaded v' l' e = below (place_in v l p) v.dirty
         (λ lo. frame_held lo)
         (λ hi. by_verdict (admitted P F v.dirty v.budget).budget (admitted P F v.dirty v.budget).verdict
@@ -423,13 +422,13 @@ module _ (P C : ℕ) (pos : 0 < P) (v : Overlay) (l : Buffers) (fits : Fits P C 
 
     pub touched_over : (k : ℕ) (new : List ℕ) (u : ℕ → ℕ → ℕ) → k + length new ≤ P
         → ((j x : ℕ) → j < P → u (p * P + j) x ≡ cond (inside k (k + length new) j) (get_or new (j - k) 0) x)
-        → (v' : Overlay) (f n c r : List ℕ) → touched P C M i mem v l true same p ≡ laid v' (bufs f n c r) Accepted
-        → touched P C M i mem v l true u p ≡ laid v' (bufs (overwrite (place_in v l p * P + k) new f) n c r) Accepted
+        → (v' : Overlay) (f n c r : List ℕ) → touched P C M i mem v l true same p ≡ laid v' (bufs f n c r) (Ok tt)
+        → touched P C M i mem v l true u p ≡ laid v' (bufs (overwrite (place_in v l p * P + k) new f) n c r) (Ok tt)
     touched_over k new u h w v' f n c r e = below (place_in v l p) v.dirty
         (λ lo.
         let a : ℕ = place_in v l p * P in
         touched_held lo true u
-        ∙ ap (λ (x : List ℕ). laid v (bufs x l.numbers l.clean l.recs) Accepted)
+        ∙ ap (λ (x : List ℕ). laid v (bufs x l.numbers l.clean l.recs) (Ok tt))
         (sym (overwrite_page P a k new l.frames (λ j. u (p * P + j) (get_or l.frames (a + j) 0)) (λ j. get_or l.frames (a + j) 0) h (frame_held lo) (λ j m. w j _ m)))
         ∙ ap (after (a + k) new) (sym (touched_held lo true same) ∙ e))
         (λ hi. by_verdict (admitted P F v.dirty v.budget).budget (admitted P F v.dirty v.budget).verdict
@@ -440,12 +439,12 @@ module _ (P C : ℕ) (pos : 0 < P) (v : Overlay) (l : Buffers) (fits : Fits P C 
         overwrite_page P a k new l.frames (λ j. u (p * P + j) (get_or loads.frame j 0)) (λ j. get_or loads.frame j 0) h (frame_free hi _ d) (λ j m. w j _ m) in
         touched_new hi _ d true u
         ∙ ap (λ (x : List ℕ). laid (moved v (v.dirty + 1) (cache_laid P C v.cache l.clean (kept true)).cache (admitted P F v.dirty v.budget).budget)
-        (bufs x (set l.numbers v.dirty p) (cache_laid P C v.cache l.clean (kept true)).clean l.recs) Accepted) (sym s)
+        (bufs x (set l.numbers v.dirty p) (cache_laid P C v.cache l.clean (kept true)).clean l.recs) (Ok tt)) (sym s)
         ∙ ap (after (a + k) new) (sym (touched_new hi _ d true same) ∙ e)
-        ∙ ap (λ (x : ℕ). laid v' (bufs (overwrite (x * P + k) new f) n c r) Accepted) (sym (place_last p hi))))
+        ∙ ap (λ (x : ℕ). laid v' (bufs (overwrite (x * P + k) new f) n c r) (Ok tt)) (sym (place_last p hi))))
 
-    pub touched_blank : (a e : ℕ) → a ≤ e → e ≤ P → (v' : Overlay) (f n c r : List ℕ) → touched P C M i mem v l true same p ≡ laid v' (bufs f n c r) Accepted
-        → touched P C M i mem v l true (blank P (p * P + a) (p * P + e)) p ≡ laid v' (bufs (overwrite (place_in v l p * P + a) (zeros (e - a)) f) n c r) Accepted
+    pub touched_blank : (a e : ℕ) → a ≤ e → e ≤ P → (v' : Overlay) (f n c r : List ℕ) → touched P C M i mem v l true same p ≡ laid v' (bufs f n c r) (Ok tt)
+        → touched P C M i mem v l true (blank P (p * P + a) (p * P + e)) p ≡ laid v' (bufs (overwrite (place_in v l p * P + a) (zeros (e - a)) f) n c r) (Ok tt)
     unfolding blank
     touched_blank a e h k = touched_over a (zeros (e - a)) (blank P (p * P + a) (p * P + e)) (omega (arith, length-zeros (e - a)))
         (λ j x m.
@@ -457,8 +456,8 @@ module _ (P C : ℕ) (pos : 0 < P) (v : Overlay) (l : Buffers) (fits : Fits P C 
         (λ past. rw (inside_hi (p * P + a) (p * P + e) (p * P + j) (omega arith), inside_hi a (a + length (zeros (e - a))) j (omega arith)))))
 
   pub touched_copy : (M : ℕ) (i : Image) (mem : List ℕ) (o : ℕ) (bs : List ℕ) → o % P + length bs ≤ P
-      → (v' : Overlay) (f n c r : List ℕ) → touched P C M i mem v l true same (o / P) ≡ laid v' (bufs f n c r) Accepted
-      → touched P C M i mem v l true (copy P o bs) (o / P) ≡ laid v' (bufs (overwrite (place_in v l (o / P) * P + o % P) bs f) n c r) Accepted
+      → (v' : Overlay) (f n c r : List ℕ) → touched P C M i mem v l true same (o / P) ≡ laid v' (bufs f n c r) (Ok tt)
+      → touched P C M i mem v l true (copy P o bs) (o / P) ≡ laid v' (bufs (overwrite (place_in v l (o / P) * P + o % P) bs f) n c r) (Ok tt)
   unfolding copy
   touched_copy M i mem o bs h = touched_over M i mem (o / P) (o % P) bs (copy P o bs) h
       (λ j x m.

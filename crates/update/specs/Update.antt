@@ -1,6 +1,6 @@
 -- An update as a value: its size, its dirty pages, its record, its clean cache, its budget; and what its calls make of it. First what is done
 -- when nothing is refused, then the same with 01's refusals, each with what it leaves. The image below is a function b: its byte at each offset.
-use Rattle.std.specs.Prelude.{ℕ, zero, suc, ◌+◌, ◌-◌, ◌*◌, ◌/◌, ◌%◌, max, min, Bool, true, false, not, cond, ◌&&◌, ◌||◌, List, [], ◌∷◌, ◌++◌, ltb, leb, eqb, length, drop, get_or}
+use Rattle.std.specs.Prelude.{ℕ, zero, suc, ◌+◌, ◌-◌, ◌*◌, ◌/◌, ◌%◌, max, min, Bool, true, not, cond, ◌&&◌, ◌||◌, List, [], ◌∷◌, ◌++◌, ltb, leb, eqb, length, drop, get_or}
 use Rattle.config.specs.Pages.{count}
 use Rattle.config.specs.declared.refusal.Refusal.{Refusal}
 use Rattle.config.specs.declared.refusal.Refusal.TheVariants.{OffsetOverflow, BudgetExceeded, FramesFull, RecordFull}

@@ -5,37 +5,50 @@ mod limits;
 
 ghost use Rattle.std.specs.Prelude.{◌≡◌, ◌&&◌, eqb};
 
-use config::Refusal;
-pub use limits::admit;
-
 // The image below an update: its size, where it starts in memory, and how many runs it has.
-#[derive(Clone, Copy)]
+#[derive(Clone, Copy, Debug, PartialEq, Eq)]
 pub struct Image {
     pub size: u64,
     pub base: u64,
     pub runs: usize,
 }
 
-// "The cache's page numbers are an array inside its struct": the oldest inserted first. Numbers from `count` on are 0.
+// The image, and the memory that it lies in.
+// The frames, their numbers, the clean frames and the record stay parameters of their own: of a struct of `&mut` slices behind a `&mut` no two may be lent at once
+// (tried), and one passed by value is taken apart and made anew at each call (tried), which is no plainer.
 #[derive(Clone, Copy)]
+pub struct Stored<'a> {
+    pub image: Image,
+    pub mem: &'a [u8],
+}
+
+// "The cache's page numbers are an array inside its struct": the oldest inserted first. Numbers from `count` on are 0.
+// The count stands beside the array: any bytes are a state of the C interface, so a count above 8 comes in too.
+#[derive(Clone, Copy, Debug, PartialEq, Eq)]
 pub struct CleanCache {
-    pub pages: [u64; 8],
+    pub pages: [u64; CleanCache::CAPACITY],
     pub count: usize,
 }
 
+impl CleanCache {
+    // How many pages it holds.
+    pub const CAPACITY: usize = 8;
+}
+
 // The budget of an update, if it is limited, and how far it was used.
-#[derive(Clone, Copy)]
+#[derive(Clone, Copy, Debug, PartialEq, Eq)]
 pub struct Budget {
+    // A flag beside the limits: any bytes are a state of the C interface, and limits that do not count go out as they came in.
     pub limited: bool,
     pub max_pages: u64,
     pub max_bytes: u64,
-    // 0: not passed; 1: passed by pages; 2: passed by bytes
+    // 0: not passed; 1: passed by pages; 2: passed by bytes. A number, as any other goes out through C as it came in.
     pub passed: u64,
     pub peak_pages: u64,
     pub peak_bytes: u64,
 }
 
-#[derive(Clone, Copy)]
+#[derive(Clone, Copy, Debug, PartialEq, Eq)]
 pub struct Overlay {
     pub base_size: u64,
     pub size: u64,
@@ -47,37 +60,17 @@ pub struct Overlay {
     pub budget: Budget,
 }
 
-// What a change of an update answers.
-#[derive(Clone, Copy)]
-pub enum Verdict {
-    Accepted,
-    Refused(Refusal),
-}
-
-// The overlay after a change, and the answer.
-#[derive(Clone, Copy)]
-pub struct Changed {
-    pub overlay: Overlay,
-    pub verdict: Verdict,
-}
-
-// The budget after one more page was asked for, and the answer.
-#[derive(Clone, Copy)]
-pub struct Admission {
-    pub budget: Budget,
-    pub verdict: Verdict,
-}
-
 ghost use Rattle.update.specs.Update.{fresh};
 ghost use Rattle.update.specs.Buffers.{overlay_of};
 
 impl Overlay {
     // An update of an image of `base_size` bytes that has just begun.
+    #[tactic(auto, unfolding(crate::specs::Update::fresh, crate::specs::Buffers::overlay_of, memory::specs::Bytes::resize, memory::specs::Bytes::filled))]
     pub fn new(base_size: u64, budget: Budget) -> Self
         ensures { result ≡ overlay_of 16384 8 base_size (fresh 16384 base_size budget) }
     {
         let cache = CleanCache {
-            pages: [0, 0, 0, 0, 0, 0, 0, 0],
+            pages: [0; CleanCache::CAPACITY],
             count: 0,
         };
         Overlay {
@@ -107,12 +100,6 @@ impl Overlay {
     pub fn is_empty(self) -> bool
         ensures { result ≡ (eqb self.size self.base_size && (eqb self.dirty 0 && eqb self.recorded 0)) }
     {
-        if self.size != self.base_size {
-            return false;
-        }
-        if self.dirty != 0 {
-            return false;
-        }
-        self.recorded == 0
+        self.size == self.base_size && self.dirty == 0 && self.recorded == 0
     }
 }

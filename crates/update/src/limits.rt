@@ -1,81 +1,66 @@
 // Whether an update may have one more dirty page.
-ghost use Rattle.std.specs.Prelude.{◌≡◌, ◌<◌, max};
-ghost use Rattle.update.specs.Update.{budget_bytes, passing, raised};
-ghost use Rattle.update.specs.Admit.{admitted};
+ghost use Rattle.std.specs.Prelude.{◌≡◌, ◌<◌};
+ghost use Rattle.update.specs.Update.{passing, raised};
+ghost use Rattle.update.specs.Admit.{admission, admitted};
 
-use crate::{Admission, Budget, Verdict};
+use crate::Budget;
 use config::{Refusal, SQLITE_PAGE_SIZE};
 
-fn bytes(pages: u64) -> u64
-    ensures { result ≡ budget_bytes 16384 pages }
-{
-    if u64::MAX / SQLITE_PAGE_SIZE < pages {
-        return u64::MAX;
-    }
-    pages * SQLITE_PAGE_SIZE
-}
+// What `Budget::passed` holds.
+const NOT_PASSED: u64 = 0;
 
-fn most(a: u64, b: u64) -> u64
-    ensures { result ≡ max a b }
-{
-    if a < b { b } else { a }
-}
+const BY_PAGES: u64 = 1;
 
-// The mark that `pages` dirty pages leave: 0 where the budget is not passed.
-fn mark(budget: Budget, pages: u64) -> u64
-    ensures { result ≡ passing 16384 pages budget }
-{
-    if !budget.limited {
-        return 0;
-    }
-    if budget.passed != 0 {
-        return budget.passed;
-    }
-    if budget.max_pages < pages {
-        return 1;
-    }
-    if budget.max_bytes < bytes(pages) {
-        return 2;
-    }
-    0
-}
+const BY_BYTES: u64 = 2;
 
-// The budget with the peaks of `pages` dirty pages.
-fn raise(budget: Budget, pages: u64) -> Budget
-    ensures { result ≡ raised 16384 pages budget }
-{
-    if !budget.limited {
-        return budget;
+impl Budget {
+    // The mark that `pages` dirty pages leave.
+    #[tactic(auto, unfolding(crate::specs::Update::passing, crate::specs::Update::budget_bytes))]
+    fn mark(self, pages: u64) -> u64
+        ensures { result ≡ passing 16384 pages self }
+    {
+        if !self.limited {
+            return NOT_PASSED;
+        }
+        if self.passed != NOT_PASSED {
+            return self.passed;
+        }
+        if self.max_pages < pages {
+            return BY_PAGES;
+        }
+        if self.max_bytes < pages.saturating_mul(SQLITE_PAGE_SIZE) {
+            return BY_BYTES;
+        }
+        NOT_PASSED
     }
-    let mut next = budget;
-    next.peak_pages = most(budget.peak_pages, pages);
-    next.peak_bytes = most(budget.peak_bytes, bytes(pages));
-    next
-}
 
-// Whether a page may become dirty where `dirty` are, with `room` frames: "page by page 30 and 33", and 33 "before a peak rises".
-pub fn admit(budget: Budget, dirty: usize, room: usize) -> Admission
-    requires { dirty < 18446744073709551615 }
-    ensures { result ≡ admitted 16384 room dirty budget }
-{
-    let pages = (dirty as u64) + 1;
-    let passed = mark(budget, pages);
-    if passed != 0 {
-        let mut marked = budget;
-        marked.passed = passed;
-        return Admission {
-            budget: marked,
-            verdict: Verdict::Refused(Refusal::BudgetExceeded),
-        };
+    // A limited budget's peaks, with `pages` dirty pages.
+    #[tactic(auto, unfolding(crate::specs::Update::raised, crate::specs::Update::budget_bytes))]
+    fn raise(&mut self, pages: u64)
+        ensures { self.new ≡ raised 16384 pages self.old }
+    {
+        if self.limited {
+            self.peak_pages = self.peak_pages.max(pages);
+            self.peak_bytes = self.peak_bytes.max(pages.saturating_mul(SQLITE_PAGE_SIZE));
+        }
     }
-    if room <= dirty {
-        return Admission {
-            budget,
-            verdict: Verdict::Refused(Refusal::FramesFull),
-        };
-    }
-    Admission {
-        budget: raise(budget, pages),
-        verdict: Verdict::Accepted,
+
+    // Whether a page may become dirty where `dirty` are, with `room` frames: "page by page 30 and 33", and 33 "before a peak rises".
+    #[tactic(auto, unfolding(crate::specs::Admit::admitted, crate::specs::Admit::with_mark))]
+    pub fn admit(&mut self, dirty: usize, room: usize) -> Result<(), Refusal>
+        requires { dirty < 18446744073709551615 }
+        ensures { admission self.new result ≡ admitted 16384 room dirty self.old }
+    {
+        let pages = (dirty as u64) + 1;
+        let passed = self.mark(pages);
+        if passed != NOT_PASSED {
+            self.passed = passed;
+            return Err(Refusal::BudgetExceeded);
+        }
+        if room <= dirty {
+            return Err(Refusal::FramesFull);
+        }
+        self.raise(pages);
+        Ok(())
     }
 }

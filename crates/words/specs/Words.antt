@@ -1,6 +1,8 @@
 -- Little-endian numbers in bytes. 01: "`encode` is little-endian".
 use Rattle.std.specs.Prelude.{◌≡◌, refl, List, [], ◌∷◌, ◌++◌, ℕ, zero, suc, ◌+◌, ◌-◌, ◌*◌, ◌/◌, ◌%◌, ◌≤◌, ◌<◌, length, get_or, take, drop}
-use Rattle.std.proofs.Common.{sym, ap, ◌∙◌, append_assoc, append-nil, add-zero, add_assoc, zero-add, suc-add, mul_left_comm, arith, length-append, length-take, add-one, get_or-drop, drop-drop, take_all, take-suc}
+use Rattle.std.proofs.Common.{sym, ap, ◌∙◌, append_assoc, append-nil, add-zero, add_assoc, zero-add, suc-add, mul_left_comm, arith, length-append, length-take, add-one, get_or-drop, drop-drop, take_all, take-suc, get_or-take}
+use Rattle.std.specs.Int.{from_le_bytes, to_le_bytes}
+use Rattle.std.proofs.Common.{w64}
 use Rattle.memory.specs.Bytes.{overwrite}
 use Rattle.memory.specs.Laws.{overwrite_join}
 use Rattle.std.proofs.lemmas.List.Edits.{sets, sets-eq}
@@ -122,6 +124,12 @@ pub word_at_sum : (o : ℕ) (l : List ℕ) → word_at o l ≡
 unfolding word_at
 word_at_sum o l = simp (drop-drop, get_or-drop, add-zero, add_assoc) (omega arith)
 
+-- it is what the library makes of those eight bytes
+pub word_at_bytes : (o : ℕ) (l : List ℕ) → from_le_bytes w64 (take 8 (drop o l)) ≡ word_at o l
+unfolding word_at
+word_at_bytes o l =
+    sym (word_at_sum 0 (take 8 (drop o l))) ∙ de_alike 8 (take 8 (drop o l)) (drop o l) (λ i h. get_or-take 8 (drop o l) i 0 h)
+
 -- a number's bytes by division
 abbrev pub eight : ℕ → List ℕ
 eight x =
@@ -138,6 +146,11 @@ word_eight x h =
     let six : x / 256 / 256 / 256 / 256 / 256 / 256 ≡ x / 0x1000000000000 = omega arith in
     let seven : x / 256 / 256 / 256 / 256 / 256 / 256 / 256 % 256 ≡ x / 0x100000000000000 = omega arith in
     λ i. x % 256 ∷ x / 256 % 256 ∷ two i % 256 ∷ three i % 256 ∷ four i % 256 ∷ five i % 256 ∷ six i % 256 ∷ seven i ∷ []
+
+-- they are the bytes that the library gives
+pub word_bytes : (x : ℕ) → x < 18446744073709551616 → word x ≡ to_le_bytes w64 x
+word_bytes x h = word_eight x h ∙ (let top : x / 0x100000000000000 ≡ x / 0x100000000000000 % 256 = omega arith in λ i.
+    x % 256 ∷ x / 256 % 256 ∷ x / 0x10000 % 256 ∷ x / 0x1000000 % 256 ∷ x / 0x100000000 % 256 ∷ x / 0x10000000000 % 256 ∷ x / 0x1000000000000 % 256 ∷ top i ∷ [])
 
 -- stores one behind the other
 pub sets_overwrite : (vs l : List ℕ) (at : ℕ) → at + length vs ≤ length l → sets l at vs ≡ overwrite at vs l

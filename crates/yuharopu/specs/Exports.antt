@@ -1,19 +1,17 @@
 -- What the C functions answer, and what the lent slices hold at the end.
-use Rattle.std.specs.Prelude.{◌≡◌, ℕ, ◌+◌, ◌*◌, ◌/◌, ◌≤◌, Bool, true, false, List, [], ◌∷◌, ltb, length, take}
-use Rattle.std.proofs.Common.{sym, ap, le-ltb}
+use Rattle.std.specs.Prelude.{◌≡◌, ℕ, ◌+◌, ◌*◌, ◌/◌, ◌≤◌, Bool, true, false, List, [], ◌∷◌, ltb, length, take, Ok, Err}
+use Rattle.std.proofs.Common.{sym, ap, ◌∙◌, arith, le-ltb, take_all, length-take}
 use Rattle.config.specs.Refusals.{numbers_of as numbersOfRefusal}
-use Rattle.memory.specs.declared.Growth.{Growth}
-use Rattle.memory.specs.declared.Growth.TheVariants.{Grown, Refused as GrowthRefused}
+use Rattle.memory.specs.Growth.{Growth}
 use Rattle.memory.specs.Bytes.{zeros, overwrite}
 use Rattle.memory.specs.Growth.{Outcome, grow_to}
-use Rattle.meta_load.specs.declared.Loaded.{Loaded}
-use Rattle.meta_load.specs.declared.Loaded.TheVariants.{Block, Refused}
+use Rattle.meta_load.specs.Load.{Loaded}
 use Rattle.meta.specs.declared.superblock.Superblock.{Superblock}
 use Rattle.meta.specs.Block.{numbers_of, of_numbers, fresh, store_in}
 use Rattle.meta_load.specs.Load.{load}
 use Rattle.runs.specs.Flat.{runs_in}
-use Rattle.extents.specs.declared.Planned.{Planned}
-use Rattle.extents.specs.declared.Planned.TheVariants.{Runs, Refused as PlanRefused}
+use Rattle.meta.specs.Runs.{runs_of}
+use Rattle.extents.specs.Outcome.{Planned}
 use Rattle.extents.specs.Plan.{plan}
 use Rattle.extents.specs.Outcome.{Outcome as Outcome', planned as laid}
 
@@ -32,8 +30,8 @@ pick false a b = b
 -- ## A superblock's fields
 
 abbrev pub shown : Loaded → List ℕ → Answer
-shown (Block b) fields = answer 0 (overwrite 0 (numbers_of b) fields)
-shown (Refused r) fields = answer (numbersOfRefusal r).number (overwrite 0 ((numbersOfRefusal r).first ∷ zeros 20) fields)
+shown (Ok b) fields = answer 0 (overwrite 0 (numbers_of b) fields)
+shown (Err r) fields = answer (numbersOfRefusal r).number (overwrite 0 ((numbersOfRefusal r).first ∷ zeros 20) fields)
 
 unfoldable pub load_fields : List ℕ → List ℕ → Answer
 load_fields block fields =
@@ -75,8 +73,8 @@ pick_grew true a b = a
 pick_grew false a b = b
 
 abbrev pub growth_shown : ℕ → List ℕ → Growth → List ℕ → Grew
-growth_shown before mem (Grown after) pages = grew 0 mem (overwrite 0 (before ∷ after.0 ∷ []) pages)
-growth_shown before mem (GrowthRefused r) pages =
+growth_shown before mem (Ok after) pages = grew 0 mem (overwrite 0 (before ∷ after.0 ∷ []) pages)
+growth_shown before mem (Err r) pages =
     grew (numbersOfRefusal r).number mem (overwrite 0 ((numbersOfRefusal r).first ∷ (numbersOfRefusal r).second ∷ []) pages)
 
 unfoldable pub grow_pages : List ℕ → ℕ → ℕ → List ℕ → Grew
@@ -99,8 +97,8 @@ pick_plans true a b = a
 pick_plans false a b = b
 
 abbrev pub plan_shown : List ℕ → Planned → List ℕ → Plans
-plan_shown work (Runs n) list = plans 0 work (overwrite 0 (n ∷ []) list)
-plan_shown work (PlanRefused r) list = plans (numbersOfRefusal r).number work list
+plan_shown work (Ok n) list = plans 0 work (overwrite 0 (n ∷ []) list)
+plan_shown work (Err r) list = plans (numbersOfRefusal r).number work list
 
 -- whole runs count; the rest of an odd list is no run
 unfoldable pub planned : List ℕ → List ℕ → ℕ → ℕ → List ℕ → List ℕ → Outcome'
@@ -124,6 +122,21 @@ pub grow_shown : (mem : List ℕ) (count end : ℕ) (pages : List ℕ) (o : Outc
     → growth_shown count o.mem o.growth pages ≡ grow_pages mem count end pages
 unfolding grow_pages
 grow_shown mem count end pages o a e = sym (rw (le-ltb (length pages) 2 a) (ap (λ (y : Outcome). growth_shown count y.mem y.growth pages) (sym e)))
+
+runs_front : (k : ℕ) (w : List ℕ) → runs_in k (take (k * 2) w) ≡ runs_in k w
+unfolding runs_in
+runs_front k w = ap runs_of (take_all (k * 2) (take (k * 2) w) (omega (arith, length-take (k * 2) w)))
+
+-- whole runs alone, and all of a list of dirty pages
+pub planned_whole : (work extents : List ℕ) (old new : ℕ) (recorded dirty : List ℕ) → let whole : List ℕ = take (length extents / 2 * 2) extents in
+    laid (length work) (plan 16384 1024 old new (runs_in (length whole / 2) whole) (runs_in (length recorded / 2) recorded) dirty) ≡ planned work extents old new recorded dirty
+unfolding planned
+planned_whole work extents old new recorded dirty =
+    let k : ℕ = length extents / 2 in
+    let half : length (take (k * 2) extents) / 2 ≡ k = omega (arith, length-take (k * 2) extents) in
+    let runs : runs_in (length (take (k * 2) extents) / 2) (take (k * 2) extents) ≡ runs_in k extents = ap (λ (n : ℕ). runs_in n (take (k * 2) extents)) half ∙ runs_front k extents in
+    let all : dirty ≡ take (length dirty) dirty = sym (take_all (length dirty) dirty (omega arith)) in
+    λ i. laid (length work) (plan 16384 1024 old new (runs i) (runs_in (length recorded / 2) recorded) (all i))
 
 pub plan_shown_lem : (work extents : List ℕ) (old new : ℕ) (recorded dirty list : List ℕ) (o : Outcome') → 1 ≤ length list → length extents / 2 ≤ 1024 → (1025 + length dirty * 2) * 2 ≤ length work
     → o ≡ planned work extents old new recorded dirty → plan_shown o.work o.answer list ≡ plan_runs work extents old new recorded dirty list

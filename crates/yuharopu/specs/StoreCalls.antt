@@ -2,15 +2,15 @@
 -- r is the result, an the numbers of the answer, st the state's bytes; ' marks what is left.
 use Rattle.std.specs.Prelude.{◌≡◌, refl, ℕ, ◌≤◌, Bool, not, cond, ◌||◌, ltb, eqb, length}
 use Rattle.std.proofs.Common.{sym, ◌∙◌, arith}
+use borrow.Author.Tests.{ltb-false, eqb-true}
+use Rattle.update.specs.ListLaws.{clash}
 use Rattle.std.proofs.Math.Path.{ap}
 use Rattle.std.proofs.Math.Bool.{true, false}
 use mathlib.Core.List.{List, []}
-use borrow.Author.Tests.{ltb-false, eqb-true}
 use Rattle.memory.specs.Bytes.{overwrite}
 use Rattle.update.specs.Buffers.{Buffers}
-use Rattle.update.specs.ListLaws.{clash}
 use Rattle.store.specs.declared.State.{State}
-use Rattle.store.specs.declared.Answer.TheVariants.{Exported}
+use Rattle.store.specs.Answers.{Exported}
 use Rattle.store.specs.Codec.{real_codec}
 use Rattle.store.specs.Calls.{Call, read, Lent, mode_of}
 use Rattle.store.specs.Store.{dirty_in}

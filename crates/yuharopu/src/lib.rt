@@ -1,5 +1,7 @@
 // The C functions: a host "calls the library through C functions on numbers and byte slices". Each takes any argument; `yuharopu_c` exports
-// them.
+// them. Each call of the store takes up and shows the state by itself: where a closure was the call, what it leaves behind a captured `&mut` was not known (tried).
+// Numbers stand for refusals, marks and kinds, and counts beside slices, as C has them.
+// The lent slices are parameters of their own, as `update::Stored` says.
 #![tactic(auto)]
 
 mod transfer_calls;
@@ -10,11 +12,9 @@ ghost use Rattle.config.specs.Pages.{count};
 ghost use Rattle.fnv.specs.Fnv.{fold, fnv1a64};
 ghost use Rattle.yuharopu.specs.Exports.{answer, grew, plans, load_fields, fresh_fields, store_fields, grow_pages, plan_runs};
 
-use config::StablePages;
-use extents::Planned;
-use memory::Growth;
+use config::{Numbers, StablePages};
+use encoding::BUFFER_TOO_SHORT;
 use meta::Superblock;
-use meta_load::Loaded;
 pub use transfer_calls::{
     yuharopu_begin_import, yuharopu_cancel_import, yuharopu_checksum, yuharopu_export_chunk,
     yuharopu_finish_import, yuharopu_import_chunk, yuharopu_refresh_checksum,
@@ -27,8 +27,6 @@ pub use update_calls::{
 };
 
 const ZERO_EXTENT_LIMIT_EXCEEDED: u64 = 31;
-
-const BUFFER_TOO_SHORT: u64 = 35;
 
 pub fn yuharopu_fnv1a64(bytes: &[u8]) -> u64
     ensures { result ≡ fnv1a64 bytes.now }
@@ -56,13 +54,13 @@ pub fn yuharopu_grow(mem: &mut [u8], count: u64, end: u64, pages: &mut [u64]) ->
         return BUFFER_TOO_SHORT;
     }
     match memory::grow(mem, StablePages(count), end) {
-        Growth::Grown(after) => {
-            memory::copy_numbers(pages, &[count, after.0]);
+        Ok(after) => {
+            memory::write(pages, 0, &[count, after.0]);
             0
         }
-        Growth::Refused(refusal) => {
-            let n = refusal.numbers();
-            memory::copy_numbers(pages, &[n.first, n.second]);
+        Err(refusal) => {
+            let n = Numbers::from(refusal);
+            memory::write(pages, 0, &[n.first, n.second]);
             n.number
         }
     }
@@ -74,8 +72,7 @@ pub fn yuharopu_superblock_fresh(fields: &mut [u64]) -> u64
     if fields.len() < Superblock::NUMBERS {
         return BUFFER_TOO_SHORT;
     }
-    let numbers = Superblock::fresh().numbers();
-    memory::copy_numbers(fields, &numbers);
+    memory::write(fields, 0, &Superblock::fresh().numbers());
     0
 }
 
@@ -89,16 +86,15 @@ pub fn yuharopu_superblock_load(block: &[u8], fields: &mut [u64]) -> u64
         return BUFFER_TOO_SHORT;
     }
     match meta_load::load(block) {
-        Loaded::Block(b) => {
-            let numbers = b.numbers();
-            memory::copy_numbers(fields, &numbers);
+        Ok(loaded) => {
+            memory::write(fields, 0, &loaded.numbers());
             0
         }
-        Loaded::Refused(refusal) => {
-            let n = refusal.numbers();
-            let mut numbers = [0u64; Superblock::NUMBERS];
+        Err(refusal) => {
+            let n = Numbers::from(refusal);
+            let mut numbers = [0; Superblock::NUMBERS];
             numbers[0] = n.first;
-            memory::copy_numbers(fields, &numbers);
+            memory::write(fields, 0, &numbers);
             n.number
         }
     }
@@ -137,28 +133,29 @@ pub fn yuharopu_plan(
 ) -> u64
     ensures { plans result work.new answer.new ≡ plan_runs work.old extents.now old_size new_size «record».now dirty.now answer.old }
 {
-    if answer.len() < 1 {
+    if answer.is_empty() {
         return BUFFER_TOO_SHORT;
     }
+    // The last number of an odd list is no run.
     let image = extents.len() / 2;
     if (Superblock::MAX_ZERO_EXTENTS as usize) < image {
         return BUFFER_TOO_SHORT;
     }
-    let pages = dirty.len();
-    let entries = record.len() / 2;
-    if work.len() < (lending::WORK_RUNS + pages * 2) * 2 {
+    if work.len() < (lending::WORK_RUNS + dirty.len() * 2) * 2 {
         return BUFFER_TOO_SHORT;
     }
     match extents::plan_numbers(
-        work, extents, image, old_size, new_size, record, entries, dirty, pages,
+        work,
+        &extents[..image * 2],
+        old_size,
+        new_size,
+        record,
+        dirty,
     ) {
-        Planned::Runs(count) => {
+        Ok(count) => {
             answer[0] = count as u64;
             0
         }
-        Planned::Refused(refusal) => {
-            let n = refusal.numbers();
-            n.number
-        }
+        Err(refusal) => Numbers::from(refusal).number,
     }
 }

@@ -3,9 +3,7 @@ ghost use Rattle.store.specs.Calls.{import_begin, import_chunk, import_finish, i
 ghost use Rattle.std.specs.Prelude.{[]};
 ghost use Rattle.yuharopu.specs.StoreCalls.{CallsOnMemory, AsksOnMemory};
 
-use store::Answer;
-
-const BUFFER_TOO_SHORT: u64 = 35;
+use encoding::BUFFER_TOO_SHORT;
 
 pub fn yuharopu_begin_import(
     state: &mut [u8],
@@ -16,11 +14,11 @@ pub fn yuharopu_begin_import(
 ) -> u64
     ensures { CallsOnMemory state.old answer.old mem.old (import_begin total expected) result state.new answer.new mem.new }
 {
-    if encoding::are_short(state, answer) {
+    let Some(mut s) = encoding::given(state, answer) else {
         return BUFFER_TOO_SHORT;
-    }
-    let step = blob::begin_import(encoding::decode(state), mem, total, expected);
-    encoding::show(step, state, answer)
+    };
+    let answered = blob::begin_import(&mut s, mem, total, expected);
+    encoding::show(&s, answered, state, answer)
 }
 
 pub fn yuharopu_import_chunk(
@@ -32,31 +30,31 @@ pub fn yuharopu_import_chunk(
 ) -> u64
     ensures { CallsOnMemory state.old answer.old mem.old (import_chunk offset bytes.now) result state.new answer.new mem.new }
 {
-    if encoding::are_short(state, answer) {
+    let Some(mut s) = encoding::given(state, answer) else {
         return BUFFER_TOO_SHORT;
-    }
-    let step = blob::import_chunk(encoding::decode(state), mem, offset, bytes);
-    encoding::show(step, state, answer)
+    };
+    let answered = blob::import_chunk(&mut s, mem, offset, bytes);
+    encoding::show(&s, answered, state, answer)
 }
 
 pub fn yuharopu_finish_import(state: &mut [u8], mem: &mut [u8], answer: &mut [u64]) -> u64
     ensures { CallsOnMemory state.old answer.old mem.old import_finish result state.new answer.new mem.new }
 {
-    if encoding::are_short(state, answer) {
+    let Some(mut s) = encoding::given(state, answer) else {
         return BUFFER_TOO_SHORT;
-    }
-    let step = blob::finish_import(encoding::decode(state), mem);
-    encoding::show(step, state, answer)
+    };
+    let answered = blob::finish_import(&mut s, mem);
+    encoding::show(&s, answered, state, answer)
 }
 
 pub fn yuharopu_cancel_import(state: &mut [u8], mem: &mut [u8], answer: &mut [u64]) -> u64
     ensures { CallsOnMemory state.old answer.old mem.old import_cancel result state.new answer.new mem.new }
 {
-    if encoding::are_short(state, answer) {
+    let Some(mut s) = encoding::given(state, answer) else {
         return BUFFER_TOO_SHORT;
-    }
-    let step = blob::cancel_import(encoding::decode(state), mem);
-    encoding::show(step, state, answer)
+    };
+    let answered = blob::cancel_import(&mut s, mem);
+    encoding::show(&s, answered, state, answer)
 }
 
 pub fn yuharopu_export_chunk(
@@ -68,33 +66,29 @@ pub fn yuharopu_export_chunk(
 ) -> u64
     ensures { AsksOnMemory state.now answer.old mem.now (export offset dst.old) result answer.new dst.new }
 {
-    if encoding::are_short(state, answer) {
+    let Some(s) = encoding::given(state, answer) else {
         return BUFFER_TOO_SHORT;
-    }
-    let step = blob::export_chunk(encoding::decode(state), mem, offset, dst);
-    let told = step.answer;
-    encoding::tell(told, answer)
+    };
+    encoding::tell(blob::export_chunk(&s, mem, offset, dst), answer)
 }
 
 pub fn yuharopu_checksum(state: &[u8], mem: &[u8], answer: &mut [u64]) -> u64
     ensures { AsksOnMemory state.now answer.old mem.now checksum result answer.new [] }
 {
-    if encoding::are_short(state, answer) {
+    let Some(s) = encoding::given(state, answer) else {
         return BUFFER_TOO_SHORT;
-    }
-    let step = blob::checksum(encoding::decode(state), mem);
-    let told = step.answer;
-    encoding::tell(told, answer)
+    };
+    encoding::tell(blob::checksum(&s, mem), answer)
 }
 
 pub fn yuharopu_refresh_checksum(state: &mut [u8], mem: &mut [u8], answer: &mut [u64]) -> u64
     ensures { CallsOnMemory state.old answer.old mem.old refresh result state.new answer.new mem.new }
 {
-    if encoding::are_short(state, answer) {
+    let Some(mut s) = encoding::given(state, answer) else {
         return BUFFER_TOO_SHORT;
-    }
-    let step = blob::refresh_checksum(encoding::decode(state), mem);
-    encoding::show(step, state, answer)
+    };
+    let answered = blob::refresh_checksum(&mut s, mem);
+    encoding::show(&s, answered, state, answer)
 }
 
 pub fn yuharopu_refresh_checksum_chunk(
@@ -105,9 +99,9 @@ pub fn yuharopu_refresh_checksum_chunk(
 ) -> u64
     ensures { CallsOnMemory state.old answer.old mem.old (refresh_step n) result state.new answer.new mem.new }
 {
-    if encoding::are_short(state, answer) {
+    let Some(mut s) = encoding::given(state, answer) else {
         return BUFFER_TOO_SHORT;
-    }
-    let step = blob::refresh_checksum_chunk(encoding::decode(state), mem, n);
-    encoding::show(step, state, answer)
+    };
+    let answered = blob::refresh_checksum_chunk(&mut s, mem, n);
+    encoding::show(&s, answered, state, answer)
 }

@@ -7,18 +7,16 @@ ghost use Rattle.encoding.specs.Called.{called, call, open_called, open_at};
 ghost use Rattle.yuharopu.specs.StoreCalls.{is_set, CallsAlone, AsksAlone, CallsOnBuffers, CallsToRead, shown, dirty_shown};
 
 use config::StablePages;
-use store::Answer;
-
-const BUFFER_TOO_SHORT: u64 = 35;
+use encoding::BUFFER_TOO_SHORT;
 
 pub fn yuharopu_open(state: &mut [u8], mem: &mut [u8], count: u64, answer: &mut [u64]) -> u64
     ensures { open_called result state.new mem.new answer.new ≡ open_at state.old answer.old mem.old count }
 {
-    if encoding::are_short(state, answer) {
+    let Some(mut s) = encoding::given(state, answer) else {
         return BUFFER_TOO_SHORT;
-    }
-    let step = blob::open(mem, StablePages(count));
-    encoding::show(step, state, answer)
+    };
+    let answered = blob::open(&mut s, mem, StablePages(count));
+    encoding::show(&s, answered, state, answer)
 }
 
 // A limit that is not 0 is one.
@@ -31,21 +29,20 @@ pub fn yuharopu_begin_update(
 ) -> u64
     ensures { CallsAlone state.old answer.old (begin (is_set limited) max_pages max_bytes) result state.new answer.new }
 {
-    if encoding::are_short(state, answer) {
+    let Some(mut s) = encoding::given(state, answer) else {
         return BUFFER_TOO_SHORT;
-    }
-    let step = blob::begin_update(encoding::decode(state), limited != 0, max_pages, max_bytes);
-    encoding::show(step, state, answer)
+    };
+    let answered = blob::begin_update(&mut s, limited != 0, max_pages, max_bytes);
+    encoding::show(&s, answered, state, answer)
 }
 
 pub fn yuharopu_file_size(state: &[u8], answer: &mut [u64]) -> u64
     ensures { AsksAlone state.now answer.old file_size result answer.new }
 {
-    if encoding::are_short(state, answer) {
+    let Some(s) = encoding::given(state, answer) else {
         return BUFFER_TOO_SHORT;
-    }
-    let size = blob::file_size(encoding::decode(state));
-    encoding::tell(Answer::Size(size), answer)
+    };
+    encoding::tell(Ok(blob::file_size(&s)), answer)
 }
 
 pub fn yuharopu_read_at(
@@ -62,20 +59,11 @@ pub fn yuharopu_read_at(
     ensures { CallsToRead state.old answer.old mem.now (bufs frames.now numbers.now clean.old «record».now) offset dst.old
         result state.new answer.new (bufs frames.now numbers.now clean.new «record».now) dst.new }
 {
-    if encoding::are_short(state, answer) {
+    let Some(mut s) = encoding::given(state, answer) else {
         return BUFFER_TOO_SHORT;
-    }
-    let step = blob::read_at(
-        encoding::decode(state),
-        mem,
-        frames,
-        numbers,
-        clean,
-        record,
-        offset,
-        dst,
-    );
-    encoding::show(step, state, answer)
+    };
+    let answered = blob::read_at(&mut s, mem, frames, numbers, clean, record, offset, dst);
+    encoding::show(&s, answered, state, answer)
 }
 
 pub fn yuharopu_write_at(
@@ -93,21 +81,13 @@ pub fn yuharopu_write_at(
     ensures { called result state.new (lent mem.new (bufs frames.new numbers.new clean.new «record».new) work.new) answer.new []
         ≡ call state.old answer.old (lent mem.old (bufs frames.old numbers.old clean.old «record».old) work.old) (write offset bytes.now) }
 {
-    if encoding::are_short(state, answer) {
+    let Some(mut s) = encoding::given(state, answer) else {
         return BUFFER_TOO_SHORT;
-    }
-    let step = blob::write_at(
-        encoding::decode(state),
-        mem,
-        frames,
-        numbers,
-        clean,
-        record,
-        work,
-        offset,
-        bytes,
+    };
+    let answered = blob::write_at(
+        &mut s, mem, frames, numbers, clean, record, work, offset, bytes,
     );
-    encoding::show(step, state, answer)
+    encoding::show(&s, answered, state, answer)
 }
 
 pub fn yuharopu_truncate(
@@ -124,20 +104,11 @@ pub fn yuharopu_truncate(
     ensures { called result state.new (lent mem.new (bufs frames.new numbers.new clean.new «record».new) work.new) answer.new []
         ≡ call state.old answer.old (lent mem.old (bufs frames.old numbers.old clean.old «record».old) work.old) (truncate size) }
 {
-    if encoding::are_short(state, answer) {
+    let Some(mut s) = encoding::given(state, answer) else {
         return BUFFER_TOO_SHORT;
-    }
-    let step = blob::truncate(
-        encoding::decode(state),
-        mem,
-        frames,
-        numbers,
-        clean,
-        record,
-        work,
-        size,
-    );
-    encoding::show(step, state, answer)
+    };
+    let answered = blob::truncate(&mut s, mem, frames, numbers, clean, record, work, size);
+    encoding::show(&s, answered, state, answer)
 }
 
 pub fn yuharopu_commit_update(
@@ -153,19 +124,11 @@ pub fn yuharopu_commit_update(
     ensures { called result state.new (lent mem.new (bufs frames.new numbers.new clean.new «record».new) work.new) answer.new []
         ≡ call state.old answer.old (lent mem.old (bufs frames.old numbers.old clean.old «record».old) work.old) commit }
 {
-    if encoding::are_short(state, answer) {
+    let Some(mut s) = encoding::given(state, answer) else {
         return BUFFER_TOO_SHORT;
-    }
-    let step = blob::commit_update(
-        encoding::decode(state),
-        mem,
-        frames,
-        numbers,
-        clean,
-        record,
-        work,
-    );
-    encoding::show(step, state, answer)
+    };
+    let answered = blob::commit_update(&mut s, mem, frames, numbers, clean, record, work);
+    encoding::show(&s, answered, state, answer)
 }
 
 pub fn yuharopu_rollback_update(
@@ -178,11 +141,11 @@ pub fn yuharopu_rollback_update(
 ) -> u64
     ensures { CallsOnBuffers state.old answer.old (bufs frames.old numbers.old clean.old «record».old) rollback result state.new answer.new (bufs frames.new numbers.new clean.new «record».new) }
 {
-    if encoding::are_short(state, answer) {
+    let Some(mut s) = encoding::given(state, answer) else {
         return BUFFER_TOO_SHORT;
-    }
-    let step = blob::rollback_update(encoding::decode(state), frames, numbers, clean, record);
-    encoding::show(step, state, answer)
+    };
+    let answered = blob::rollback_update(&mut s, frames, numbers, clean, record);
+    encoding::show(&s, answered, state, answer)
 }
 
 // The dirty page goes in front of `dst`, as far as that reaches.
@@ -196,14 +159,13 @@ pub fn yuharopu_dirty_page(
 ) -> u64
     ensures { shown result answer.new dst.new ≡ dirty_shown state.now answer.old frames.now numbers.now page dst.old }
 {
-    if encoding::are_short(state, answer) {
+    let Some(s) = encoding::given(state, answer) else {
+        return BUFFER_TOO_SHORT;
+    };
+    if blob::frames_are_short(&s, frames, numbers) {
         return BUFFER_TOO_SHORT;
     }
-    let s = encoding::decode(state);
-    if blob::frames_are_short(s, frames, numbers) {
-        return BUFFER_TOO_SHORT;
-    }
-    let bytes = blob::dirty_page(s, frames, numbers, page);
+    let bytes = blob::dirty_page(&s, frames, numbers, page);
     memory::copy(dst, bytes);
-    encoding::tell(Answer::Exported(bytes.len() as u64), answer)
+    encoding::tell(Ok(bytes.len() as u64), answer)
 }

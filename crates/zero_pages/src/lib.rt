@@ -11,22 +11,17 @@ use meta::ZeroExtent;
 fn in_run(start: u64, end: u64, page: u64) -> bool
     ensures { result ≡ within (run start end) page }
 {
-    let pair = [start, end];
-    runs::covered(&pair, 1, page)
+    runs::covered(&[start, end], 1, page)
 }
 
-// 01: the test whether a page is zero "also takes a lent slice of `ZeroExtent`".
+// 01: the test whether a page is zero "also takes a lent slice of `ZeroExtent`". It calls the covered test on numbers.
 pub fn is_zero(extents: &[ZeroExtent], page: u64) -> bool
     ensures { result ≡ covers extents.now page }
 {
-    let n = extents.len();
-    let mut i: usize = 0;
-    while i < n {
-        let x = extents[i];
+    for x in extents {
         if in_run(x.start, x.end, page) {
             return true;
         }
-        i += 1;
     }
     false
 }

@@ -1,25 +1,25 @@
 -- The answer to an input. 01: "prints .. page count, run count, each run. Otherwise one line, `result=extents` for 31 or `result=malformed`"
-use Rattle.std.specs.Prelude.{ℕ, List, []}
+use Rattle.std.specs.Prelude.{Option, Some, None, Ok, Err, ℕ, List, []}
 use Rattle.config.specs.Pages.{count}
 use Rattle.extents.specs.Plan.{plan, too_many, kept}
 use Rattle.extents.specs.Plan.{Answer as Planned}
-use Rattle.plan_report.specs.declared.Answer.{Answer}
+use Rattle.plan_report.specs.declared.PlanError.{PlanError}
 use Rattle.plan_text.specs.declared.Parsed.{Parsed}
 use Rattle.plan_text.specs.Grammar.{Input}
 use Rattle.plan_report.specs.Answers.{report}
 use Rattle.plan_text.specs.Parse.{Reading, parse}
 
 abbrev pub by_plan : ℕ → Planned → List ℕ
-by_plan pages too_many = report Answer.Extents []
-by_plan pages (kept runs) = report (Answer.Accepted pages) runs
+by_plan pages too_many = report (Err PlanError.Extents) []
+by_plan pages (kept runs) = report (Ok pages) runs
 
 -- the plan of what an input says
 unfoldable pub reply_to : Input → List ℕ
 reply_to i = by_plan (count 16384 i.new) (plan 16384 1024 i.old i.new i.extents i.records i.dirty)
 
-abbrev pub by_reading : Parsed → Reading → List ℕ
-by_reading (Parsed.Accepted old new e r d) x = reply_to (record { old = old; new = new; extents = x.extents; records = x.records; dirty = x.dirty })
-by_reading Parsed.Malformed x = report Answer.Malformed []
+abbrev pub by_reading : Option Parsed → Reading → List ℕ
+by_reading (Some p) x = reply_to (record { old = p.old_size; new = p.new_size; extents = x.extents; records = x.records; dirty = x.dirty })
+by_reading None x = report (Err PlanError.Malformed) []
 
 -- of any text
 unfoldable pub reply : List ℕ → List ℕ

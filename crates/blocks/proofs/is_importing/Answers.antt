@@ -1,10 +1,9 @@
-use mathlib.Core.Path.{ap}
+use Rattle.std.proofs.Common.{◌∙◌, ap, ℕ, ◌%◌}
 use native.Mathlib.Nat.{div-one}
-use Prim.Native.Nat.{ℕ, ◌%◌}
 use lib.Dec.{eqb}
 use Rattle.store.specs.Blocks.{importing}
 use Rattle.blocks.proofs.is_importing.Goals as goal
 
 pub returns : goal.returns
 unfolding importing
-returns c = ap (λ (x : ℕ). eqb (x % 2) 1) (div-one c.args.b.flags)
+returns c = c.has.ensures ∙ ap (λ (x : ℕ). eqb (x % 2) 1) (div-one c.args.b.flags)

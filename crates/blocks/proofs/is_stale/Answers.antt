@@ -1,7 +1,6 @@
-use mathlib.Core.Path.{refl}
 use Rattle.store.specs.Blocks.{stale}
 use Rattle.blocks.proofs.is_stale.Goals as goal
 
 pub returns : goal.returns
 unfolding stale
-returns c = refl
+returns c = c.has.ensures

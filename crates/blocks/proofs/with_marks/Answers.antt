@@ -1,7 +1,12 @@
-use native.Mathlib.Omega.{arith}
-use Rattle.store.specs.Blocks.{marks}
+use Rattle.std.proofs.Common.{◌≡◌, refl, ◌∙◌, arith, Bool, true, false}
+use mir.Val.{bool_byte}
+use Rattle.store.specs.Blocks.{bit, marks}
 use Rattle.blocks.proofs.with_marks.Goals as goal
+
+is_bit : (t : Bool) → bool_byte t ≡ bit t
+is_bit true = refl
+is_bit false = refl
 
 pub returns : goal.returns
 unfolding marks
-returns c = omega (arith, c.flag.ensures.0, c.flag-2.ensures.0, c.flag-3.ensures.0)
+returns c = omega (arith, c.from.ensures ∙ is_bit c.args.importing, c.from-2.ensures ∙ is_bit c.args.stale, c.from-3.ensures ∙ is_bit c.args.refreshing)

@@ -1,4 +1,4 @@
--- `overlay::settle` meets its contract.
+-- `buffers::settle` meets its contract.
 use mathlib.Core.Path.{ap}
 use Rattle.update.specs.declared.CleanCache.{CleanCache}
 use Rattle.update.specs.Laid.{settle}
@@ -7,4 +7,4 @@ use Rattle.buffers.proofs.settle.Goals as goal
 
 pub returns : goal.returns
 unfolding settle
-returns c = let o = c.args.o in ap (λ (x : CleanCache). moved o o.dirty x o.budget) c.settle-cache.ensures
+returns c = let o = c.args.o.now in ap (λ (x : CleanCache). moved o o.dirty x o.budget) c.settle.ensures

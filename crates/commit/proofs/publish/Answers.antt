@@ -1,20 +1,23 @@
--- `publish` meets its contract.
-use mathlib.Core.Path.{◌∙◌}
-use lib.ListN.{take}
+-- `commit::publish` meets its contract.
+use Rattle.std.proofs.Common.{ap, ◌∙◌, Result}
+use Rattle.std.proofs.lemmas.Result.{err_from_is_err_and}
+use Rattle.std.specs.Prelude.{Err}
+use Rattle.config.specs.declared.refusal.Refusal.{Refusal}
 use Rattle.update.specs.Pages.{pages_in}
+use Rattle.store.specs.Answers.{done}
+use Rattle.commit.specs.Committed.{left_by, outcome}
 use Rattle.commit.specs.CommitSteps.{publish_refused, publish_grown}
 use Rattle.commit.proofs.publish.Goals as goal
 
-pub returns-in-Refused : goal.returns-in-Refused
-returns-in-Refused c =
+pub returns-in_err-s : goal.returns-in_err-s
+returns-in_err-s c =
     let a = c.args in
-    publish_refused 16384 65536 8 1024 18446744073709551615 a.update a.s a.mem.now a.o.size (pages_in 16384 (take a.o.dirty a.numbers.now) a.frames.now) a.runs.now a.end _ _ c.grow-grown.ensures _ c.in-Refused.is
+    let p = err_from_is_err_and c.from_residual.result c.from_residual.ensures.1 in
+    ap (λ (x : Result (Unit {0}) Refusal). outcome (left_by a.s.now (done x)) c.grow.new.mem) (p.1 ∙ ap Err p.2)
+    ∙ publish_refused 16384 65536 8 1024 18446744073709551615 a.update a.s.now a.mem.now a.size (pages_in 16384 a.numbers.now a.frames.now) a.runs.now a.end _ _ c.grow.ensures _ c.in_err-s.was
 
-pub shape_of-mem-in-Grown : goal.shape_of-mem-in-Grown
-shape_of-mem-in-Grown c = c.store.auto.mem ∙ c.write_pages.auto.mem ∙ c.grow-grown.auto.mem
-
-pub returns-in-Grown : goal.returns-in-Grown
-returns-in-Grown c =
+pub returns : goal.returns
+returns c =
     let a = c.args in
-    publish_grown 16384 65536 8 1024 18446744073709551615 a.update a.s a.mem.now a.o.size (pages_in 16384 (take a.o.dirty a.numbers.now) a.frames.now) a.runs.now a.end _ _ c.grow-grown.ensures
-    _ _ _ _ _ _ c.in-Grown.is c.requires.2 c.page_count_for_size-pages.ensures c.write_pages.ensures c.after_commit-b.ensures c.store.ensures
+    publish_grown 16384 65536 8 1024 18446744073709551615 a.update a.s.now a.mem.now a.size (pages_in 16384 a.numbers.now a.frames.now) a.runs.now a.end _ _ c.grow.ensures
+    c.in_ok-s.field-0 _ _ _ _ _ c.in_ok-s.was c.requires.1 c.page_count_for_size-pages.ensures c.write_pages.ensures c.after_commit-block.ensures c.store-s.ensures

@@ -1,46 +1,42 @@
-use mathlib.Core.Path.{◌≡◌, sym, ap, subst, ◌∙◌}
-use Prim.Native.Nat.{ℕ, ◌+◌, ◌-◌}
-use native.Mathlib.Omega.{arith}
-use mathlib.Core.List.{[], ◌∷◌}
-use lib.ListN.{take, drop, get_or}
-use borrow.Author.Rules.{rules}
+-- `commit::required_end` meets its contract.
+use Rattle.std.proofs.Common.{◌≡◌, sym, ap, ◌∙◌, arith, ℕ, ◌+◌, [], ◌∷◌, length, get_or, subst, drop, Option}
 use Rattle.config.specs.Pages.{count}
 use Rattle.extents.specs.Plan.{below}
 use Rattle.store.specs.Plan.{required}
-use Rattle.commit.specs.declared.Reach.{Reach}
-use Rattle.commit.specs.Reach.{reach, reach_at, reach_over, at_reach, over_reach, required_least, required_end, turn_over, turn_at}
+use Rattle.commit.specs.Reach.{reach, reach_at, reach_over, at_reach, required_least, required_end, turn_over, turn_at}
 use Rattle.commit.proofs.required_end.Goals as goal
 
-pub returns-in_default : goal.returns-in_default
-returns-in_default c =
+pub returns-in_err-end : goal.returns-in_err-end
+returns-in_err-end c =
     let a = c.args in
-    let e = over_reach _ (sym c.add-start.ensures ∙ c.in_default.is) in
-    sym (reach_over _ (omega (arith, e, required_least 16384 a.base (below (count 16384 a.size) (take a.dirty a.numbers.now)) (a.base + a.size))))
+    c.from_residual.ensures ∙ sym (reach_over _ (omega (arith, c.in_err-end.ensures, required_least 16384 a.base (below (count 16384 a.size) a.numbers.now) (a.base + a.size))))
 
-pub loop-i-init : goal.loop-i-init
-loop-i-init c =
+pub loop-page-init : goal.loop-page-init
+loop-page-init c =
     let a = c.args in
-    let e = at_reach _ _ (sym c.add-start.ensures ∙ c.in-At.is) in
-    (search rules, omega (arith, e.0, e.1), ap (required 16384 a.base (below (count 16384 a.size) (take a.dirty a.numbers.now))) (sym e.0))
+    let e : c.in_ok-end.end ≡ a.base + a.size = c.in_ok-end.ensures.1 in
+    (omega (arith, e, c.in_ok-end.ensures.0), ap (required 16384 a.base (below (count 16384 a.size) a.numbers.now)) e)
 
-pub returns-in_default-next : goal.returns-in_default-next
-returns-in_default-next c =
+pub returns-in_err-end-2 : goal.returns-in_err-end-2
+returns-in_err-end-2 c =
     let a = c.args in
-    let first : ℕ → Reach = λ (k : ℕ). reach (required 16384 a.base (below k (get_or a.numbers.now c.loop-i.i 0 ∷ [])) c.loop-i.end) in
-    let e = sym (ap first c.page_count_for_size-pages.ensures) ∙ sym c.further-next.ensures ∙ c.in_default-next.is in
-    sym (ap reach (sym c.loop-i.invariant.2) ∙ turn_over 16384 a.base (count 16384 a.size) a.dirty a.numbers.now c.loop-i.i c.loop-i.end c.loop-i-test.true c.requires e)
+    let first : ℕ → Option ℕ = λ (k : ℕ). reach (required 16384 a.base (below k (get_or a.numbers.now c.loop-page.page-index 0 ∷ [])) c.loop-page.end) in
+    let e = sym (ap first c.page_count_for_size-pages.ensures) ∙ sym c.further.ensures ∙ c.in_err-end-2.was in
+    c.from_residual-in_err-end-2.ensures
+    ∙ sym (ap reach (sym c.loop-page.invariant.1) ∙ turn_over 16384 a.base (count 16384 a.size) a.numbers.now c.loop-page.page-index c.loop-page.end c.loop-page-test.true e)
 
-pub loop-i-preserved : goal.loop-i-preserved
-loop-i-preserved c =
+pub loop-page-preserved : goal.loop-page-preserved
+loop-page-preserved c =
     let a = c.args in
-    let first : ℕ → Reach = λ (k : ℕ). reach (required 16384 a.base (below k (get_or a.numbers.now c.loop-i.i 0 ∷ [])) c.loop-i.end) in
-    let e = sym (ap first c.page_count_for_size-pages.ensures) ∙ sym c.further-next.ensures ∙ c.in-At-next.is in
+    let first : ℕ → Option ℕ = λ (k : ℕ). reach (required 16384 a.base (below k (get_or a.numbers.now c.loop-page.page-index 0 ∷ [])) c.loop-page.end) in
+    let e = sym (ap first c.page_count_for_size-pages.ensures) ∙ sym c.further.ensures ∙ c.in_ok-end-2.was in
     let m = at_reach _ _ e in
-    (search rules, omega (arith, m.0, m.1), turn_at 16384 a.base (count 16384 a.size) a.dirty a.numbers.now c.loop-i.i c.loop-i.end _ c.loop-i-test.true c.requires e ∙ c.loop-i.invariant.2)
+    (omega (arith, m.0, m.1), turn_at 16384 a.base (count 16384 a.size) a.numbers.now c.loop-page.page-index c.loop-page.end _ c.loop-page-test.true e ∙ c.loop-page.invariant.1)
 
 pub returns : goal.returns
 returns c =
     let a = c.args in
-    let i : c.loop-i.i ≡ a.dirty = omega (arith, c.loop-i.invariant.0, c.loop-i-test.false) in
-    let e = sym (required_end 16384 a.base (count 16384 a.size) a.dirty a.numbers.now c.loop-i.end) ∙ subst (λ (k : ℕ). required 16384 a.base (below (count 16384 a.size) (drop k (take a.dirty a.numbers.now))) c.loop-i.end ≡ required 16384 a.base (below (count 16384 a.size) (take a.dirty a.numbers.now)) (a.base + a.size)) i c.loop-i.invariant.2 in
-    sym (ap reach (sym e) ∙ reach_at _ c.loop-i.invariant.1)
+    let i : c.loop-page.page-index ≡ length a.numbers.now = omega (arith, c.loop-page.auto.page-index-end, c.loop-page-test.false) in
+    let e = sym (required_end 16384 a.base (count 16384 a.size) a.numbers.now c.loop-page.end)
+    ∙ subst (λ (k : ℕ). required 16384 a.base (below (count 16384 a.size) (drop k a.numbers.now)) c.loop-page.end ≡ required 16384 a.base (below (count 16384 a.size) a.numbers.now) (a.base + a.size)) i c.loop-page.invariant.1 in
+    sym (ap reach (sym e) ∙ reach_at _ c.loop-page.invariant.0)

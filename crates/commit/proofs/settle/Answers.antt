@@ -1,36 +1,47 @@
--- `settle` meets its contract.
-use mathlib.Core.Path.{sym, ◌∙◌}
-use Prim.Native.Nat.{◌*◌}
-use native.Mathlib.Omega.{arith}
-use lib.ListN.{take, length-take}
+-- `commit::settle` meets its contract.
+use Rattle.std.proofs.Common.{◌≡◌, sym, ap, ◌∙◌, arith, ℕ, ◌*◌, Result, Option, length-take}
+use Rattle.std.proofs.lemmas.Result.{err_from_is_err_and}
+use Rattle.std.specs.Prelude.{Err, Some, None}
+use Rattle.config.specs.declared.refusal.Refusal.{Refusal}
+use Rattle.config.specs.declared.refusal.Refusal.TheVariants.{OffsetOverflow}
+use Rattle.store.specs.Answers.{done}
 use Rattle.store.specs.Codec.{real_codec}
+use Rattle.commit.specs.Committed.{left_by}
 use Rattle.commit.specs.CommitSteps.{plan_refused, plan_room, plan_kept, front_even, reach_over, reach_at, settle_refused, settle_over, settle_on}
 use Rattle.commit.proofs.settle.Goals as goal
 
-pub returns-in_default : goal.returns-in_default
-returns-in_default c =
+pub returns-in_err-count : goal.returns-in_err-count
+returns-in_err-count c =
     let a = c.args in
-    settle_refused 16384 65536 8 1024 18446744073709551615 real_codec a.update a.s a.mem.now a.o.size (take a.o.dirty a.numbers.now) a.frames.now _ _ _ (plan_refused _ _ _ _ _ c.plan-planned.ensures c.in_default.is) c.refuse.ensures
+    let p = err_from_is_err_and c.from_residual.result c.from_residual.ensures.1 in
+    let r = plan_refused _ _ _ _ _ c.plan.ensures c.in_err-count.was in
+    settle_refused 16384 65536 8 1024 18446744073709551615 real_codec a.update a.s.now a.mem.now a.size a.numbers.now a.frames.now _ _ _ r.0
+    (ap (λ (x : Result (Unit {0}) Refusal). left_by a.s.now (done x)) (p.1 ∙ ap Err (p.2 ∙ r.1)))
 
-pub returns-in_default-reach : goal.returns-in_default-reach
-returns-in_default-reach c =
+pub returns-in_err-end : goal.returns-in_err-end
+returns-in_err-end c =
     let a = c.args in
-    settle_over 16384 65536 8 1024 18446744073709551615 real_codec a.update a.s a.mem.now a.o.size (take a.o.dirty a.numbers.now) a.frames.now _ _ _ (plan_kept _ _ _ _ _ c.plan-planned.ensures c.in-Runs.is) _ (reach_over _ (sym c.required_end-reach.ensures ∙ c.in_default-reach.is)) c.refuse-in_default-reach.ensures
+    let p = err_from_is_err_and c.from_residual-in_err-end.result c.from_residual-in_err-end.ensures.1 in
+    let none : ◌≡◌ {A = Option ℕ} c.required_end.result None = grind arith in
+    let why : c.in_err-end.field-0.0 ≡ OffsetOverflow = grind arith in
+    settle_over 16384 65536 8 1024 18446744073709551615 real_codec a.update a.s.now a.mem.now a.size a.numbers.now a.frames.now _ _ _ (plan_kept _ _ _ _ _ c.plan.ensures c.in_ok-count.was) _
+    (reach_over _ (sym c.required_end.ensures ∙ none)) (ap (λ (x : Result (Unit {0}) Refusal). left_by a.s.now (done x)) (p.1 ∙ ap Err (p.2 ∙ why)))
 
-pub overflow_mul-n : goal.overflow_mul-n
-overflow_mul-n c = omega (arith, plan_room _ _ _ _ _ c.plan-planned.ensures c.in-Runs.is, c.plan-planned.auto.work, c.well_formed)
+pub overflow_mul-count : goal.overflow_mul-count
+overflow_mul-count c = omega (arith, plan_room _ _ _ _ _ c.plan.ensures c.in_ok-count.was, c.plan.auto.work, c.well_formed)
 
 pub slice_bounds-publish-end : goal.slice_bounds-publish-end
-slice_bounds-publish-end c = plan_room _ _ _ _ _ c.plan-planned.ensures c.in-Runs.is
+slice_bounds-publish-end c = plan_room _ _ _ _ _ c.plan.ensures c.in_ok-count.was
 
 pub slice_bounds-publish-end-2 : goal.slice_bounds-publish-end-2
-slice_bounds-publish-end-2 c = omega (arith, plan_room _ _ _ _ _ c.plan-planned.ensures c.in-Runs.is, length-take (c.in-Runs.count * 2) c.plan-planned.new.work)
+slice_bounds-publish-end-2 c = omega (arith, plan_room _ _ _ _ _ c.plan.ensures c.in_ok-count.was, length-take (c.in_ok-count.count * 2) c.plan.new.work)
 
 pub publish-requires : goal.publish-requires
-publish-requires c = (c.requires.0, c.requires.1, front_even _ _ (plan_room _ _ _ _ _ c.plan-planned.ensures c.in-Runs.is))
+publish-requires c = (c.requires.0, front_even _ _ (plan_room _ _ _ _ _ c.plan.ensures c.in_ok-count.was))
 
 pub returns : goal.returns
 returns c =
     let a = c.args in
-    let t = reach_at _ _ (sym c.required_end-reach.ensures ∙ c.in-At.is) in
-    settle_on 16384 65536 8 1024 18446744073709551615 real_codec a.update a.s a.mem.now a.o.size (take a.o.dirty a.numbers.now) a.frames.now _ _ _ (plan_kept _ _ _ _ _ c.plan-planned.ensures c.in-Runs.is) _ _ _ t.0 t.1 c.publish.ensures
+    let some : ◌≡◌ {A = Option ℕ} c.required_end.result (Some c.in_ok-end.end) = grind arith in
+    let t = reach_at _ _ (sym c.required_end.ensures ∙ some) in
+    settle_on 16384 65536 8 1024 18446744073709551615 real_codec a.update a.s.now a.mem.now a.size a.numbers.now a.frames.now _ _ _ (plan_kept _ _ _ _ _ c.plan.ensures c.in_ok-count.was) _ _ _ t.0 t.1 c.publish.ensures

@@ -1,20 +1,10 @@
--- `fnv::are_zeros` meets its contract: whether the first `k` of the five bytes are zeros, by their sum.
-use Rattle.std.proofs.Common.{◌≡◌, refl, arith, rules}
-use Rattle.fnv.specs.Zeros.{zeros_next}
+-- `fnv::are_zeros` meets its contract: whether the bytes before `byte` are zeros.
+use Rattle.std.proofs.Common.{Bool, ◌&&◌, ◌==◌, get_or, ap, ◌∙◌, arith}
+use Rattle.fnv.specs.Zeros.{zeros_more}
 use Rattle.fnv.proofs.are_zeros.Goals as goal
 
-pub loop-k-init : goal.loop-k-init
-loop-k-init c = (search rules, (search rules, refl))
-
-pub loop-k-preserved : goal.loop-k-preserved
-loop-k-preserved c =
-    let x = c.loop-k in
-    let a = c.args in
-    (search rules, (omega arith, zeros_next a.bytes.now a.at x.k _ x.sum (omega arith) c.wide-sum.ensures.0 x.invariant.1.1))
-
-pub returns : goal.returns
-returns c =
-    let x = c.loop-k in
-    let a = c.args in
-    let e : x.k ≡ 5 = omega arith in
-    rw e at x.invariant.1.1
+pub loop-byte-preserved : goal.loop-byte-preserved
+loop-byte-preserved c =
+    let l = c.args.bytes.now in
+    let k = c.loop-byte.byte-index in
+    ap (λ (b : Bool). b && get_or l k 0 == 0) c.loop-byte.invariant ∙ zeros_more l k (omega arith)

@@ -1,30 +1,27 @@
--- `fnv::fold_fnv1a64` meets its contract: before each turn the hash is that of the first `i` bytes.
-use Rattle.std.proofs.Common.{ℕ, ◌-◌, length, take, drop, sym, ap, ◌∙◌, arith, rules}
-use Rattle.fnv.specs.Fnv.{fold, fold_nil}
-use Rattle.fnv.specs.Parts.{fold_on, fold_rest}
+-- `fnv::fold_fnv1a64` meets its contract: before each turn the hash is that of the chunks before `eight`.
+use Rattle.std.proofs.Common.{◌≡◌, ℕ, [], ◌*◌, ◌+◌, ◌/◌, ◌<◌, length, get_or, take, drop, sym, ap, ◌∙◌, arith, take-append-drop}
+use Rattle.fnv.specs.Fnv.{fold, fold_nil, fold_join}
+use Rattle.fnv.specs.Parts.{fold_on, chunk_at}
 use Rattle.fnv.proofs.fold_fnv1a64.Goals as goal
 
-pub loop-i-init : goal.loop-i-init
-loop-i-init c = (search rules, sym (fold_nil _))
+pub loop-eight-init : goal.loop-eight-init
+loop-eight-init c = sym (fold_nil _)
 
-pub fold_eight-sum-requires : goal.fold_eight-sum-requires
-fold_eight-sum-requires c = omega arith
-
-pub loop-i-smaller : goal.loop-i-smaller
-loop-i-smaller c = omega arith
-
-pub loop-i-preserved : goal.loop-i-preserved
-loop-i-preserved c =
-    let x = c.loop-i in
-    let a = c.args in
-    (omega arith, c.fold_eight-sum.ensures ∙ ap (λ (h : ℕ). fold h (take 8 (drop x.i a.bytes.now))) x.invariant.1 ∙ fold_on a.hash a.bytes.now x.i 8)
-
-pub fold_part-requires : goal.fold_part-requires
-fold_part-requires c = omega arith
+pub loop-eight-preserved : goal.loop-eight-preserved
+loop-eight-preserved c =
+    let l = c.args.bytes.now in
+    let k = c.loop-eight.eight-index in
+    let turn : k < length l / 8 = omega (arith, c.as_chunks.ensures.front_len) in
+    let chunk : get_or c.as_chunks.result.0.now k [] ≡ take 8 (drop (k * 8) l) = rw c.as_chunks.ensures.front (chunk_at 8 (length l / 8) k l [] turn) in
+    let e : k * 8 + 8 ≡ (k + 1) * 8 = omega arith in
+    c.fold_eight-sum.ensures ∙ (λ i. fold (c.loop-eight.invariant i) (chunk i)) ∙ fold_on c.args.hash l (k * 8) 8
+    ∙ ap (λ (n : ℕ). fold c.args.hash (take n l)) e
 
 pub returns : goal.returns
 returns c =
-    let x = c.loop-i in
-    let a = c.args in
-    let l = a.bytes.now in
-    c.fold_part.ensures ∙ ap (λ (h : ℕ). fold h (take (length l - x.i) (drop x.i l))) x.invariant.1 ∙ fold_rest a.hash l x.i x.invariant.0
+    let l = c.args.bytes.now in
+    let n : ℕ = length l / 8 * 8 in
+    let all : c.loop-eight.eight-index ≡ length l / 8 = omega (arith, c.as_chunks.ensures.front_len) in
+    let front : c.loop-eight.sum ≡ fold c.args.hash (take n l) = rw all at c.loop-eight.invariant in
+    c.fold_each.ensures ∙ (λ i. fold (front i) (c.as_chunks.ensures.back i)) ∙ fold_join c.args.hash (take n l) (drop n l)
+    ∙ ap (fold c.args.hash) (take-append-drop n l)

@@ -1,4 +1,4 @@
--- `growth::growth::zero_new_end` meets its contract.
+-- `growth::zero_new_end` meets its contract.
 use mathlib.Core.Path.{sym, ◌∙◌}
 use native.Mathlib.Omega.{arith}
 use Rattle.growth.specs.GrowLaws.{finished_none, finished_same, finished_touch}

@@ -1,46 +1,25 @@
--- `image::copy_runs` meets its contract: after each turn the front of the list holds the numbers copied so far.
-use mathlib.Core.Path.{◌≡◌, sym, ap, ◌∙◌}
-use Prim.Native.Nat.{ℕ, ◌-◌, ◌*◌}
-use native.Mathlib.Omega.{arith}
-use mathlib.Core.List.{List}
-use lib.ListN.{take, set}
-use borrow.Author.Rules.{rules}
-use Rattle.memory.specs.Bytes.{overwrite}
-use Rattle.memory.specs.Laws.{overwrite_nil}
-use Rattle.image_runs.specs.Image.{image_count, image_numbers, image_most}
-use Rattle.image.specs.ImageReads.{count_none, count_is, numbers_none, numbers_more, numbers_all}
+-- `image::copy_runs` meets its contract.
+use Rattle.std.proofs.Common.{◌≡◌, sym, ap, ◌∙◌, arith, ℕ, ◌*◌, ◌++◌, length, take, drop, length-take}
+use Rattle.std.proofs.Math.Seq.{take-append_seam}
+use Rattle.image_runs.specs.Image.{image_most, length-image}
 use Rattle.image.proofs.copy_runs.Goals as goal
 
-pub returns-then-mem-lt-EXTENTS_OFFSET : goal.returns-then-mem-lt-EXTENTS_OFFSET
-returns-then-mem-lt-EXTENTS_OFFSET c =
-    let a = c.args in
-    let z : image_count a.count a.mem.now ≡ 0 = count_none a.count a.mem.now (omega (arith, c.if-mem-lt-EXTENTS_OFFSET.true)) in
-    (omega arith, sym (numbers_none a.count a.mem.now z))
+pub overflow_mul-n : goal.overflow_mul-n
+overflow_mul-n c = omega (arith, c.count_runs-n.ensures, image_most c.args.count c.args.mem.now)
 
-pub loop-i-init : goal.loop-i-init
-loop-i-init c = (search rules, search rules, sym (overwrite_nil 0 c.args.out.now))
+pub slice_bounds-read_runs-end : goal.slice_bounds-read_runs-end
+slice_bounds-read_runs-end c = omega (arith, c.count_runs-n.ensures, image_most c.args.count c.args.mem.now, c.requires)
 
-pub loop-i-preserved : goal.loop-i-preserved
-loop-i-preserved c =
-    let x = c.loop-i in
-    let a = c.args in
-    let n : c.least-n.result ≡ image_count a.count a.mem.now =
-    count_is a.count a.mem.now c.least.result c.least-n.result c.least.ensures c.least-n.ensures in (
-      search rules,
-      search rules,
-      ap (λ (y : List ℕ). set y x.i c.read_word.result) x.invariant.2
-          ∙ numbers_more a.count x.i c.read_word.result a.mem.now a.out.now (omega (arith, n, c.loop-i-test.true)) (omega (arith, n, image_most a.count a.mem.now, c.requires, c.loop-i-test.true)) c.read_word.ensures,
-    )
+pub slice_bounds-read_runs-end-2 : goal.slice_bounds-read_runs-end-2
+slice_bounds-read_runs-end-2 c = omega (arith, length-take (c.count_runs-n.result * 2) c.args.out.now, c.count_runs-n.ensures, image_most c.args.count c.args.mem.now, c.requires)
+
+pub read_runs-requires : goal.read_runs-requires
+read_runs-requires c = length-take (c.count_runs-n.result * 2) c.args.out.now ∙ omega (arith, c.count_runs-n.ensures, image_most c.args.count c.args.mem.now, c.requires)
 
 pub returns : goal.returns
 returns c =
-    let x = c.loop-i in
     let a = c.args in
-    let m = c.least-n.result in
-    let n : m ≡ image_count a.count a.mem.now =
-    count_is a.count a.mem.now c.least.result m c.least.ensures c.least-n.ensures in
-    let e : x.i ≡ m * 2 = omega (arith, x.invariant.0, c.loop-i-test.false) in (
-      omega arith,
-      ap (take (m * 2)) (x.invariant.2 ∙ ap (λ (y : ℕ). overwrite 0 (take y (image_numbers a.count a.mem.now)) a.out.now) e)
-          ∙ numbers_all a.count (m * 2) a.mem.now a.out.now (omega arith) (omega (arith, n, image_most a.count a.mem.now, c.requires)),
-    )
+    let n : ℕ = c.count_runs-n.result * 2 in
+    let new = c.read_runs.new.out in
+    let e : length new ≡ n = ap length c.read_runs.ensures ∙ length-image a.count a.mem.now ∙ omega (arith, c.count_runs-n.ensures) in
+    (omega (arith, c.count_runs-n.ensures), ap (λ (k : ℕ). take k (new ++ drop n a.out.now)) (sym e) ∙ take-append_seam new (drop n a.out.now) ∙ c.read_runs.ensures)

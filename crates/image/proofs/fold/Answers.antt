@@ -1,6 +1,6 @@
 -- `image::fold` meets its contract: the checksum so far, taken on over the rest, is the one asked for.
 use mathlib.Core.Path.{◌≡◌, sym, ◌∙◌}
-use Prim.Native.Nat.{◌+◌, ◌-◌, ◌≤◌}
+use Prim.Native.Nat.{◌≤◌}
 use native.Mathlib.Omega.{arith}
 use mathlib.Core.List.{◌++◌}
 use lib.ListN.{length, take, drop, length-append, length-take, length-drop}
@@ -22,9 +22,6 @@ laid c is_whole is_few =
     let n = c.part-n.result in
     length-append c.fold_part-sum.new.page (drop n x.page) ∙ omega (arith, c.fold_part-sum.auto.page ∙ is_whole, is_few, x.invariant.0, length-drop n x.page)
 
-pub overflow_sub-within : goal.overflow_sub-within
-overflow_sub-within c = omega (arith, c.page_offset-within.ensures)
-
 pub slice_bounds-fold_part-end : goal.slice_bounds-fold_part-end
 slice_bounds-fold_part-end c = sym (whole (goal.at.slice_bounds-fold_part-end c).After-part-n)
 
@@ -33,7 +30,7 @@ loop-at-preserved c =
     let x = c.loop-at in
     let a = c.args in (
       laid c (whole (goal.at.loop-at-preserved c).After-part-n) (few (goal.at.loop-at-preserved c).After-part-n),
-      fold_more 16384 (omega arith) a.image a.mem.now x.at a.end (length (take c.part-n.result x.page)) c.part-n.result x.sum c.fold_part-sum.result (whole (goal.at.loop-at-preserved c).After-part-n)
+      fold_more 16384 (omega arith) a.stored.image a.stored.mem.now x.at a.end (length (take c.part-n.result x.page)) c.part-n.result x.sum c.fold_part-sum.result (whole (goal.at.loop-at-preserved c).After-part-n)
           (omega (arith, c.part-n.ensures, c.loop-at-test.true)) (omega (arith, c.part-n.ensures, c.page_offset-within.ensures)) c.fold_part-sum.ensures
           ∙ x.invariant.1,
     )
@@ -42,4 +39,4 @@ pub returns : goal.returns
 returns c =
     let a = c.args in
     let x = c.loop-at in
-    sym (fold_last 16384 (omega arith) a.image a.mem.now x.at a.end x.sum (omega (arith, c.loop-at-test.false))) ∙ x.invariant.1
+    sym (fold_last 16384 (omega arith) a.stored.image a.stored.mem.now x.at a.end x.sum (omega (arith, c.loop-at-test.false))) ∙ x.invariant.1

@@ -7,7 +7,7 @@ use Rattle.update.specs.Image.{image_in}
 use Rattle.image.proofs.fold.Given as goal
 
 abbrev pub invariant-loop-at : goal.invariant-loop-at
-invariant-loop-at l = (length l.page ≡ 16384) × (fold l.sum (tabulate_from l.at (l.end - l.at) (image_in 16384 l.image l.mem)) ≡ fold l.hash (tabulate_from l.from (l.end - l.from) (image_in 16384 l.image l.mem)))
+invariant-loop-at l = (length l.page ≡ 16384) × (fold l.sum (tabulate_from l.at (l.end - l.at) (image_in 16384 l.stored.image l.stored.mem.now)) ≡ fold l.hash (tabulate_from l.from (l.end - l.from) (image_in 16384 l.stored.image l.stored.mem.now)))
 
 abbrev pub decreases-loop-at : goal.decreases-loop-at
 decreases-loop-at l = l.end - l.at

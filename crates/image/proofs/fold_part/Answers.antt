@@ -10,19 +10,19 @@ use Rattle.image.proofs.fold_part.Goals as goal
 use Rattle.image.proofs.fold_part.Goals.{After-image_covers}
 
 -- whether a run covers the page
-seen : (c : After-image_covers) → let a = c.args in c.image_covers.result ≡ covers (image_runs a.image.runs a.mem.now) (a.at / 16384)
+seen : (c : After-image_covers) → let a = c.args in c.image_covers.result ≡ covers (image_runs a.stored.image.runs a.stored.mem.now) (a.at / 16384)
 seen c =
     let a = c.args in
-    c.image_covers.ensures ∙ ap (covers (image_runs a.image.runs a.mem.now)) c.page_no-number.ensures
+    c.image_covers.ensures ∙ ap (covers (image_runs a.stored.image.runs a.stored.mem.now)) c.page_no-number.ensures
 
 pub returns-then-image_covers : goal.returns-then-image_covers
 returns-then-image_covers c =
     let a = c.args in
     c.fold_zeros.ensures
-    ∙ ap (fold a.hash) (sym (part_covered 16384 a.image a.mem.now a.at (length a.page.now) (sym (seen (goal.at.returns-then-image_covers c).After-image_covers) ∙ c.if-image_covers.true)))
+    ∙ ap (fold a.hash) (sym (part_covered 16384 a.stored.image a.stored.mem.now a.at (length a.page.now) (sym (seen (goal.at.returns-then-image_covers c).After-image_covers) ∙ c.if-image_covers.true)))
 
 pub returns : goal.returns
 returns c =
     let a = c.args in
     c.fold_stored.ensures
-    ∙ ap (fold a.hash) (sym (part_stored 16384 a.image a.mem.now a.at (length a.page.now) (sym (seen (goal.at.returns c).After-image_covers) ∙ c.if-image_covers.false)))
+    ∙ ap (fold a.hash) (sym (part_stored 16384 a.stored.image a.stored.mem.now a.at (length a.page.now) (sym (seen (goal.at.returns c).After-image_covers) ∙ c.if-image_covers.false)))

@@ -13,8 +13,5 @@ returns-then-page-end c =
     let n : ℕ = length a.page.now in
     let from : ℕ = c.reach-from.result in
     let k : from + n - from ≡ n = omega arith in
-    let inside = stored_inside a.image a.mem.now a.at n c.reach-end.result from c.reach-end.ensures c.reach-from.ensures c.if-page-end.true in
-    c.fold_fnv1a64.ensures ∙ ap (fold a.hash) (ap (λ (x : ℕ). take x (drop from a.mem.now)) k ∙ sym inside)
-
-pub returns : goal.returns
-returns c = c.fold_fnv1a64-2.ensures ∙ ap (fold _) c.read_stored.ensures
+    let inside = stored_inside a.stored.image a.stored.mem.now a.at n c.reach-end.result from c.reach-end.ensures c.reach-from.ensures c.if-page-end.true in
+    c.fold_fnv1a64.ensures ∙ ap (fold a.hash) (ap (λ (x : ℕ). take x (drop from a.stored.mem.now)) k ∙ sym inside)

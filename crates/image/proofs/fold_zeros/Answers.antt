@@ -2,7 +2,6 @@
 use mathlib.Core.Path.{◌≡◌, sym, ap, ◌∙◌}
 use Prim.Native.Nat.{ℕ}
 use lib.ListN.{length}
-use Rattle.fnv.specs.Fnv.{fold}
 use Rattle.fnv.specs.Zeros.{fold_zeros}
 use Rattle.image.specs.ImageReads.{fold_zeros_lem}
 use Rattle.image.proofs.fold_zeros.Goals as goal
@@ -12,6 +11,3 @@ returns-then-page-eq-PAGE_LEN c =
     let a = c.args in
     let n : length a.page.now ≡ 16384 = c.if-page-eq-PAGE_LEN.true in
     c.fold_zero_page.ensures ∙ ap (λ (k : ℕ). fold_zeros k a.hash) (sym n) ∙ fold_zeros_lem (length a.page.now) a.hash
-
-pub returns : goal.returns
-returns c = c.fold_fnv1a64.ensures ∙ ap (fold _) c.fill.ensures

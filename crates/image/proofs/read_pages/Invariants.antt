@@ -7,7 +7,7 @@ use Rattle.update.specs.Image.{image_in}
 use Rattle.image.proofs.read_pages.Given as goal
 
 abbrev pub invariant-loop-done : goal.invariant-loop-done
-invariant-loop-done l = (l.done ≤ length l.dst) × (length l.dst ≡ length l.initial.dst) × (l.dst ≡ overwrite 0 (tabulate_from l.offset l.done (image_in 16384 l.image l.mem)) l.initial.dst)
+invariant-loop-done l = (l.done ≤ length l.dst) × (length l.dst ≡ length l.initial.dst) × (l.dst ≡ overwrite 0 (tabulate_from l.offset l.done (image_in 16384 l.stored.image l.stored.mem.now)) l.initial.dst)
 
 abbrev pub decreases-loop-done : goal.decreases-loop-done
 decreases-loop-done l = length l.initial.dst - l.done

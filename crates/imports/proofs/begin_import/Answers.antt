@@ -1,47 +1,43 @@
-use mathlib.Core.Path.{refl, sym, ◌∙◌, ap, ◌≡◌}
-use mathlib.Core.List.{[]}
-use Rattle.config.specs.declared.refusal.Refusal.TheVariants.{BufferTooShort, UpdateInProgress, ImportAlreadyStarted, OffsetOverflow}
-use Rattle.store.specs.Calls.{import_begin}
-use Rattle.transfer.specs.StoreCases.{refused_as, answered_as, too_short_lem, is_lent, short_refused, updating_refused, idle_acts, begin_open, begin_over, begin_done}
+-- `imports::begin_import` meets its contract.
+use Rattle.std.proofs.Common.{refl, sym, ap, ◌∙◌, ◌≡◌, arith, ℕ, ◌+◌, ◌*◌, ◌≤◌, ◌<◌, length}
+use Rattle.std.proofs.lemmas.Result.{err_from_is_err_and}
 use Rattle.meta.specs.declared.superblock.Superblock.{Superblock}
-use Rattle.store.specs.declared.Answer.TheVariants.{Done}
-use Rattle.transfer.specs.Steps.{restore_to}
-use Prim.Native.Nat.{ℕ, ◌+◌, ◌*◌, ◌≤◌, ◌<◌}
-use native.Mathlib.Omega.{arith}
+use Rattle.store.specs.Answers.{Done}
 use Rattle.store.specs.Blocks.{after_import_begin}
-use mathlib.Core.Bool.{not}
+use Rattle.store.specs.Calls.{import_begin}
+use Rattle.transfer.specs.Steps.{restore_to}
+use Rattle.transfer.specs.StoreCases.{refused_exit, admitted, admitted_lent, stored_as, answered_with, begin_open, begin_over, begin_done}
 use Rattle.imports.proofs.begin_import.Goals as goal
 
-pub returns-then-not-is_lent : goal.returns-then-not-is_lent
-returns-then-not-is_lent c =
+pub returns-in_err-admit : goal.returns-in_err-admit
+returns-in_err-admit c =
     let a = c.args in
-    λ b w. refused_as a.s a.mem.now b w BufferTooShort [] c.refuse.result _ c.refuse.ensures
-    (short_refused a.s a.mem.now b w (import_begin a.total a.expected) refl (too_short_lem a.s a.mem.now c.is_lent.result c.is_lent.ensures (ap not c.if-not-is_lent.true)))
-
-pub returns-then-s : goal.returns-then-s
-returns-then-s c =
-    let a = c.args in
-    λ b w. refused_as a.s a.mem.now b w UpdateInProgress [] c.refuse-then-s.result _ c.refuse-then-s.ensures
-    (updating_refused a.s a.mem.now b w (import_begin a.total a.expected) refl (is_lent a.s a.mem.now c.is_lent.result c.is_lent.ensures (ap not c.if-not-is_lent.false)) c.if-s.true)
+    let p = err_from_is_err_and c.from_residual.result c.from_residual.ensures.1 in
+    refused_exit a.s.now a.mem.now (import_begin a.total a.expected) refl (λ x. Done) c.from_residual.result _ _ p.1 p.2 (sym c.admit.ensures ∙ c.in_err-admit.was)
 
 pub returns-then-is_importing : goal.returns-then-is_importing
 returns-then-is_importing c =
     let a = c.args in
-    λ b w. refused_as a.s a.mem.now b w ImportAlreadyStarted [] c.refuse-then-is_importing.result _ c.refuse-then-is_importing.ensures
-    (idle_acts a.s a.mem.now b w (import_begin a.total a.expected) refl (is_lent a.s a.mem.now c.is_lent.result c.is_lent.ensures (ap not c.if-not-is_lent.false)) c.if-s.false ∙ begin_open a.s a.mem.now b w a.total a.expected (sym c.is_importing.ensures ∙ c.if-is_importing.true))
+    λ b w. sym (admitted a.s.now a.mem.now (import_begin a.total a.expected) refl b w (sym c.admit.ensures ∙ c.in_ok-admit.was)
+    ∙ begin_open a.s.now a.mem.now b w a.total a.expected (sym c.is_importing.ensures ∙ c.if-is_importing.true))
 
 pub returns-then-base-total : goal.returns-then-base-total
 returns-then-base-total c =
     let a = c.args in
-    let over : 18446744073709551615 < a.s.count.0 * 65536 + a.total = omega (arith, is_lent a.s a.mem.now c.is_lent.result c.is_lent.ensures (ap not c.if-not-is_lent.false), c.capacity-base.ensures, c.well_formed.1.0.0, c.if-base-total.true) in
-    λ b w. refused_as a.s a.mem.now b w OffsetOverflow [] c.refuse-then-base-total.result _ c.refuse-then-base-total.ensures
-    (idle_acts a.s a.mem.now b w (import_begin a.total a.expected) refl (is_lent a.s a.mem.now c.is_lent.result c.is_lent.ensures (ap not c.if-not-is_lent.false)) c.if-s.false ∙ begin_over a.s a.mem.now b w a.total a.expected (sym c.is_importing.ensures ∙ c.if-is_importing.false) over)
+    let lent : a.s.now.count.0 * 65536 ≤ length a.mem.now = admitted_lent a.s.now a.mem.now (sym c.admit.ensures ∙ c.in_ok-admit.was) in
+    let over : 18446744073709551615 < a.s.now.count.0 * 65536 + a.total = omega (arith, lent, c.capacity-base.ensures, c.if-base-total.true) in
+    λ b w. sym (admitted a.s.now a.mem.now (import_begin a.total a.expected) refl b w (sym c.admit.ensures ∙ c.in_ok-admit.was)
+    ∙ begin_over a.s.now a.mem.now b w a.total a.expected (sym c.is_importing.ensures ∙ c.if-is_importing.false) over)
 
 pub returns : goal.returns
 returns c =
     let a = c.args in
-    let base : c.capacity-base.result ≡ a.s.count.0 * 65536 = omega (arith, is_lent a.s a.mem.now c.is_lent.result c.is_lent.ensures (ap not c.if-not-is_lent.false), c.capacity-base.ensures, c.well_formed.1.0.0, c.if-base-total.false) in
-    let fits : a.s.count.0 * 65536 + a.total ≤ 18446744073709551615 = omega (arith, is_lent a.s a.mem.now c.is_lent.result c.is_lent.ensures (ap not c.if-not-is_lent.false), c.capacity-base.ensures, c.well_formed.1.0.0, c.if-base-total.false) in
-    λ b w. answered_as b w c.restore.result c.restore.new.mem _ _
-    (c.restore.ensures ∙ ap (λ (k : Superblock). restore_to a.s a.mem.now k Done) (c.after_import_begin-begun.ensures ∙ ap (λ (x : ℕ). after_import_begin a.total a.expected x a.s.block) base))
-    (idle_acts a.s a.mem.now b w (import_begin a.total a.expected) refl (is_lent a.s a.mem.now c.is_lent.result c.is_lent.ensures (ap not c.if-not-is_lent.false)) c.if-s.false ∙ begin_done a.s a.mem.now b w a.total a.expected (sym c.is_importing.ensures ∙ c.if-is_importing.false) fits)
+    let lent : a.s.now.count.0 * 65536 ≤ length a.mem.now = admitted_lent a.s.now a.mem.now (sym c.admit.ensures ∙ c.in_ok-admit.was) in
+    let base : c.capacity-base.result ≡ a.s.now.count.0 * 65536 = omega (arith, lent, c.capacity-base.ensures, c.if-base-total.false) in
+    let fits : a.s.now.count.0 * 65536 + a.total ≤ 18446744073709551615 = omega (arith, lent, c.capacity-base.ensures, c.if-base-total.false) in
+    let begun : c.after_import_begin-begun.result ≡ after_import_begin a.total a.expected (a.s.now.count.0 * 65536) a.s.now.block =
+    c.after_import_begin-begun.ensures ∙ ap (λ (x : ℕ). after_import_begin a.total a.expected x a.s.now.block) base in
+    λ b w. answered_with c.restore.new.s c.restore.new.mem Done b w _ _
+    (stored_as a.s.now c.restore.new.s a.mem.now c.restore.new.mem _ Done c.restore.ensures ∙ ap (λ (k : Superblock). restore_to a.s.now a.mem.now k Done) begun)
+    (admitted a.s.now a.mem.now (import_begin a.total a.expected) refl b w (sym c.admit.ensures ∙ c.in_ok-admit.was)
+    ∙ begin_done a.s.now a.mem.now b w a.total a.expected (sym c.is_importing.ensures ∙ c.if-is_importing.false) fits)

@@ -4,14 +4,14 @@ use mathlib.Core.List.{[], ◌∷◌}
 use Prim.Native.Nat.{ℕ}
 use native.Mathlib.Omega.{arith}
 use lib.ListN.{take, length-take}
-use Rattle.memory.specs.Bytes.{zeros}
+use Rattle.memory.specs.Bytes.{zeros, filled}
 use Rattle.fnv.specs.Fnv.{fnv_is, fold, basis}
 use Rattle.meta.specs.Block.{offset_is}
 use Rattle.meta_load.specs.LoadLaws.{checksum_parts}
 use Rattle.meta_load.proofs.checksum_of.Goals as goal
 
 eight : 0 ∷ 0 ∷ 0 ∷ 0 ∷ 0 ∷ 0 ∷ 0 ∷ 0 ∷ [] ≡ zeros 8
-unfolding zeros
+unfolding filled
 eight = refl
 
 pub slice_bounds-fnv1a64-end : goal.slice_bounds-fnv1a64-end

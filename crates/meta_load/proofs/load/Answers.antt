@@ -5,7 +5,7 @@ use Prim.Native.Nat.{◌≤◌}
 use native.Mathlib.Omega.{arith}
 use lib.ListN.{length}
 use Rattle.config.specs.declared.refusal.Refusal.TheVariants.{MetaChecksumMismatch}
-use Rattle.meta_load.specs.declared.Loaded.TheVariants.{Block, Refused}
+use Rattle.std.specs.Prelude.{Ok, Err}
 use Rattle.meta.specs.Runs.{normalized as isNormalized}
 use Rattle.meta.specs.BlockLaws.{encoded_len-lo, encoded_len-hi}
 use Rattle.meta_load.specs.Load.{load as loaded, pick, block_runs, checksum_in}
@@ -28,7 +28,7 @@ sum c =
 
 -- past the tests before the last, the runs decide
 runs : (c : Else-block-checksum_of) → let s = c.args.bytes.now in
-    c.checksum_of.result ≡ checksum_in s → loaded s ≡ pick (isNormalized (block_runs s)) (Block c.decode-block.result) (Refused MetaChecksumMismatch)
+    c.checksum_of.result ≡ checksum_in s → loaded s ≡ pick (isNormalized (block_runs s)) (Ok c.decode-block.result) (Err MetaChecksumMismatch)
 runs c is =
     let d = c.decode-block in
     let s = c.args.bytes.now in
@@ -49,7 +49,7 @@ returns-then-block-ne-MAGIC c = let s = c.args.bytes.now in
 pub returns-then-block-ne-VERSION : goal.returns-then-block-ne-VERSION
 returns-then-block-ne-VERSION c = let s = c.args.bytes.now in
     let d = c.decode-block in
-    sym (load_is s d.result d.ensures ∙ judge_version d.result _ _ c.if-block-ne-MAGIC.false c.if-block-ne-VERSION.true)
+    rw c.from.ensures (sym (load_is s d.result d.ensures ∙ judge_version d.result _ _ c.if-block-ne-MAGIC.false c.if-block-ne-VERSION.true))
 
 pub returns-then-block-ne-LAYOUT_VERSION : goal.returns-then-block-ne-LAYOUT_VERSION
 returns-then-block-ne-LAYOUT_VERSION c = let s = c.args.bytes.now in
@@ -80,8 +80,8 @@ slice_bounds-normalized-start c = lo (goal.at.slice_bounds-normalized-start c).A
 pub slice_bounds-normalized-end : goal.slice_bounds-normalized-end
 slice_bounds-normalized-end c = hi (goal.at.slice_bounds-normalized-end c).After-encoded_len-n
 
-pub returns-then-normalized : goal.returns-then-normalized
-returns-then-normalized c = sym (runs (goal.at.returns-then-normalized c).Else-block-checksum_of (sum (goal.at.returns-then-normalized c).After-checksum_of) ∙ rw (sym (sorted (goal.at.returns-then-normalized c).After-normalized) ∙ c.if-normalized.true))
+pub returns-then-not-normalized : goal.returns-then-not-normalized
+returns-then-not-normalized c = sym (runs (goal.at.returns-then-not-normalized c).Else-block-checksum_of (sum (goal.at.returns-then-not-normalized c).After-checksum_of) ∙ rw (sym (sorted (goal.at.returns-then-not-normalized c).After-normalized) ∙ c.if-not-normalized.true))
 
 pub returns : goal.returns
-returns c = sym (runs (goal.at.returns c).Else-block-checksum_of (sum (goal.at.returns c).After-checksum_of) ∙ rw (sym (sorted (goal.at.returns c).After-normalized) ∙ c.if-normalized.false))
+returns c = sym (runs (goal.at.returns c).Else-block-checksum_of (sum (goal.at.returns c).After-checksum_of) ∙ rw (sym (sorted (goal.at.returns c).After-normalized) ∙ c.if-not-normalized.false))

@@ -38,21 +38,21 @@ returns-then-end-start c =
 pub find-i-requires : goal.find-i-requires
 find-i-requires c = (search rules, walk_normalized _ _ c.requires.0 c.requires.1)
 
-pub meet-m-requires : goal.meet-m-requires
-meet-m-requires c =
+pub meet-next-requires : goal.meet-next-requires
+meet-next-requires c =
     let a = c.args in
     (rw c.find-i.ensures (place_le a.work.now a.count a.start), search rules)
 
-pub returns-then-i-j : goal.returns-then-i-j
-returns-then-i-j c =
-    let m = c.meet-m in
+pub returns-then-i-next : goal.returns-then-i-next
+returns-then-i-next c =
+    let m = c.meet-next in
     let i = c.find-i in
     let a = c.args in
-    some-met a.work.now a.count c.requires.0 c.requires.1 (run a.start a.end) i.result m.result.next m.result.run c.if-end-start.false i.ensures m.ensures.2 _ _ c.if-i-j.true c.store.ensures c.close.ensures
+    some-met a.work.now a.count c.requires.0 c.requires.1 (run a.start a.end) i.result m.result.next m.result.run c.if-end-start.false i.ensures m.ensures.2 _ _ c.if-i-next.true c.store.ensures c.close.ensures
 
-pub returns-else-i-j : goal.returns-else-i-j
-returns-else-i-j c =
-    let m = c.meet-m in
+pub returns-else-i-next : goal.returns-else-i-next
+returns-else-i-next c =
+    let m = c.meet-next in
     let i = c.find-i in
     let a = c.args in
-    none-met a.work.now a.count c.requires.0 c.requires.1 (run a.start a.end) i.result m.result.next m.result.run c.if-end-start.false i.ensures m.ensures.2 _ m.ensures.0 c.if-i-j.false c.«open».ensures
+    none-met a.work.now a.count c.requires.0 c.requires.1 (run a.start a.end) i.result m.result.next m.result.run c.if-end-start.false i.ensures m.ensures.2 _ m.ensures.0 c.if-i-next.false c.«open».ensures

@@ -1,11 +1,6 @@
--- The runs gathered, and zeros behind them: a law over plain values.
-use Rattle.runs.specs.Sets.{maximal}
-use Rattle.runs.specs.FlatLaws.{laid_copied}
-use Rattle.runs.specs.Flat.{runs_in}
+use Rattle.std.proofs.Common.{arith}
+use Rattle.runs.specs.FlatLaws.{runs_in-length}
 use Rattle.page_sets.proofs.copy_runs.Goals as goal
 
-pub returns : goal.returns
-returns c =
-    let a = c.args in
-    let g = c.gather-have in
-    laid_copied a.work.now g.new.work _ g.result a.count (maximal (runs_in a.count a.runs.now)) g.auto.work c.requires g.ensures.1 g.ensures.0 c.clear.ensures
+pub copy-requires : goal.copy-requires
+copy-requires c = rw c.first.ensures (omega (arith, c.requires, runs_in-length c.args.runs.now c.args.count))

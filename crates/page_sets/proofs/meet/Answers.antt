@@ -1,23 +1,23 @@
--- The run lo .. hi in front of the runs from j on takes up, at every turn, what start .. end takes up of those from i on.
-use mathlib.Core.Path.{◌∙◌}
-use Rattle.meta.specs.Runs.{run}
+-- The run so far takes up, of the runs from `next` on, what start .. end takes up of those from i on.
+use Rattle.std.proofs.Common.{◌≡◌, ◌∙◌, arith, rules}
 use Rattle.runs.specs.FlatLaws.{meet_step, meet_here, meet_last}
-use borrow.Author.Rules.{rules}
 use Rattle.page_sets.proofs.meet.Goals as goal
 
-pub returns-then-hi-x : goal.returns-then-hi-x
-returns-then-hi-x c =
+pub returns-then-run-x : goal.returns-then-run-x
+returns-then-run-x c =
     let a = c.args in
-    let x = c.read-x in
-    (c.loop-j.invariant.0, c.loop-j.invariant.1, c.loop-j.invariant.2 ∙ meet_here a.work.now c.loop-j.j a.count (run c.loop-j.lo c.loop-j.hi) x.result c.loop-j-test.true x.ensures c.if-hi-x.true)
+    let l = c.loop-next in
+    (l.auto.next, l.invariant.0, l.invariant.1 ∙ meet_here a.work.now l.next a.count l.run c.read-x.result c.loop-next-test.true c.read-x.ensures c.if-run-x.true)
 
-pub loop-j-preserved : goal.loop-j-preserved
-loop-j-preserved c =
+pub loop-next-preserved : goal.loop-next-preserved
+loop-next-preserved c =
     let a = c.args in
-    let x = c.read-x in
-    (search rules, search rules, c.loop-j.invariant.2 ∙ meet_step a.work.now c.loop-j.j a.count (run c.loop-j.lo c.loop-j.hi) x.result c.loop-j-test.true x.ensures c.if-hi-x.false ∙ rw (c.least-lo.ensures, c.most-hi.ensures))
+    let l = c.loop-next in
+    (search rules, l.invariant.1 ∙ meet_step a.work.now l.next a.count l.run c.read-x.result c.loop-next-test.true c.read-x.ensures c.if-run-x.false ∙ rw (c.min.ensures, c.max.ensures))
 
 pub returns : goal.returns
 returns c =
     let a = c.args in
-    (c.loop-j.invariant.0, c.loop-j.invariant.1, c.loop-j.invariant.2 ∙ meet_last a.work.now c.loop-j.j a.count (run c.loop-j.lo c.loop-j.hi) c.loop-j-test.false)
+    let l = c.loop-next in
+    let same : l.next ≡ a.count = omega arith in
+    (omega (arith, c.requires.0), omega arith, rw same at (l.invariant.1 ∙ meet_last a.work.now l.next a.count l.run (omega arith)))

@@ -8,10 +8,11 @@ use lib.ListN.{length}
 use Rattle.meta.specs.declared.ZeroExtent.{ZeroExtent}
 use Rattle.meta.specs.Runs.{normalized}
 use Rattle.runs.specs.Sets.{maximal, without, piece, remove}
-use Rattle.runs.specs.Flat.{runs_in, Out, held, at, upto, write, place}
+use Rattle.runs.specs.Flat.{runs_in, Out, out, held, at, upto, write, place}
 use Rattle.runs.specs.FlatLaws.{walk_normalized, held_remove, place_le, page_at, page_none, page_before, page_behind, page_here}
 use borrow.Author.Rules.{rules}
 use Rattle.page_sets.proofs.remove.Goals as goal
+use Rattle.page_sets.proofs.remove.Goals.{then-x-page-via-then-x-page, then-x-page-via-else-x-page+then-page-x}
 
 -- page p, whose place among the n runs in front of w is i
 module _ (w : List ℕ) (n i p : ℕ) (e : i ≡ place p (upto w 0 n)) where
@@ -44,15 +45,15 @@ pub returns-then-x-page : goal.returns-then-x-page
 returns-then-x-page c =
     let i = c.find-i in
     let a = c.args in
+    let w = a.work.now in
     let x = c.read-x in
-    removed a.work.now a.count i.result a.page i.ensures c.requires.0 c.requires.1 _ (page_behind a.work.now i.result a.count a.page x.result (is-run a.work.now a.count i.result a.page i.ensures c.if-i-count.false) x.ensures (walk_normalized a.work.now a.count c.requires.0 c.requires.1) i.ensures c.if-x-page.true)
-
-pub returns-then-page-x : goal.returns-then-page-x
-returns-then-page-x c =
-    let i = c.find-i in
-    let a = c.args in
-    let x = c.read-x in
-    removed a.work.now a.count i.result a.page i.ensures c.requires.0 c.requires.1 _ (page_before a.work.now i.result a.count a.page x.result (is-run a.work.now a.count i.result a.page i.ensures c.if-i-count.false) x.ensures c.if-page-x.true c.if-x-page.false)
+    let k = is-run w a.count i.result a.page i.ensures c.if-i-count.false in
+    let f = walk_normalized w a.count c.requires.0 c.requires.1 in
+    let absent : write w i.result (remove a.page (upto w i.result a.count)) ≡ out w a.count = elim c.then-x-page.branch [
+      | then-x-page-via-then-x-page v ↦ page_behind w i.result a.count a.page x.result k x.ensures f i.ensures v.if-x-page.true
+      | then-x-page-via-else-x-page+then-page-x v ↦ page_before w i.result a.count a.page x.result k x.ensures v.if-page-x.true v.if-x-page.false
+    ] in
+    removed w a.count i.result a.page i.ensures c.requires.0 c.requires.1 _ absent
 
 pub cut-requires : goal.cut-requires
 cut-requires c =

@@ -1,27 +1,24 @@
 -- `plan_line::read_number` meets its contract: each return is the definition with what the calls before it answered.
-use mathlib.Core.Path.{sym, ap, ◌∙◌}
-use Rattle.decimal.specs.Places.{numeral_in, place_in}
+use Rattle.std.proofs.Common.{sym}
 use Rattle.plan_line.specs.Readers.{read_number}
 use Rattle.plan_line.proofs.read_number.Goals as goal
 
-pub returns-in_default : goal.returns-in_default
+pub returns-in_err-found : goal.returns-in_err-found
 unfolding read_number
-returns-in_default c =
-    let e = sym c.number-found.ensures ∙ ap (numeral_in c.args.text.now) c.in_default.is in
-    simp e
+returns-in_err-found c =
+    let e = sym c.in_err-found.ensures in
+    simp (c.from_residual.ensures, e)
 
-pub returns-in_default-line_end : goal.returns-in_default-line_end
+pub returns-in_err-next : goal.returns-in_err-next
 unfolding read_number
-returns-in_default-line_end c =
-    let t = c.args.text.now in
-    let e = sym c.number-found.ensures ∙ ap (numeral_in t) c.in-Read.is in
-    let g = sym c.skip-line_end.ensures ∙ ap (place_in t) c.in_default-line_end.is in
-    simp (e, g)
+returns-in_err-next c =
+    let e = sym c.in_ok-found.ensures in
+    let f = sym c.in_err-next.ensures in
+    simp (c.from_residual-in_err-next.ensures, e, f)
 
 pub returns : goal.returns
 unfolding read_number
 returns c =
-    let t = c.args.text.now in
-    let e = sym c.number-found.ensures ∙ ap (numeral_in t) c.in-Read.is in
-    let g = sym c.skip-line_end.ensures ∙ ap (place_in t) c.in-At.is in
-    simp (e, g)
+    let e = sym c.in_ok-found.ensures in
+    let f = sym c.in_ok-next.ensures in
+    simp (e, f)

@@ -1,38 +1,33 @@
 -- `plan_line::read_run` meets its contract: each return is the definition with what the calls before it answered.
-use mathlib.Core.Path.{sym, ap, ◌∙◌}
-use Rattle.decimal.specs.Places.{numeral_in, place_in}
+use Rattle.std.proofs.Common.{sym}
 use Rattle.plan_line.specs.Readers.{read_run}
 use Rattle.plan_line.proofs.read_run.Goals as goal
 
-pub returns-in_default : goal.returns-in_default
+pub returns-in_err-first : goal.returns-in_err-first
 unfolding read_run
-returns-in_default c =
-    let t = c.args.text.now in
-    let e = sym c.number-first.ensures ∙ ap (numeral_in t) c.in_default.is in
-    simp e
+returns-in_err-first c =
+    let e = sym c.in_err-first.ensures in
+    simp (c.from_residual.ensures, e)
 
-pub returns-in_default-found : goal.returns-in_default-found
+pub returns-in_err-dash : goal.returns-in_err-dash
 unfolding read_run
-returns-in_default-found c =
-    let t = c.args.text.now in
-    let e = sym c.number-first.ensures ∙ ap (numeral_in t) c.in-Read.is in
-    let g = sym c.skip-found.ensures ∙ ap (place_in t) c.in_default-found.is in
-    simp (e, g)
+returns-in_err-dash c =
+    let e = sym c.in_ok-first.ensures in
+    let f = sym c.in_err-dash.ensures in
+    simp (c.from_residual-in_err-dash.ensures, e, f)
 
-pub returns-in_default-second : goal.returns-in_default-second
+pub returns-in_err-second : goal.returns-in_err-second
 unfolding read_run
-returns-in_default-second c =
-    let t = c.args.text.now in
-    let e = sym c.number-first.ensures ∙ ap (numeral_in t) c.in-Read.is in
-    let g = sym c.skip-found.ensures ∙ ap (place_in t) c.in-At.is in
-    let h = sym c.read_number-second.ensures ∙ ap (numeral_in t) c.in_default-second.is in
-    simp (e, g, h)
+returns-in_err-second c =
+    let e = sym c.in_ok-first.ensures in
+    let f = sym c.in_ok-dash.ensures in
+    let g = sym c.in_err-second.ensures in
+    simp (c.from_residual-in_err-second.ensures, e, f, g)
 
 pub returns : goal.returns
 unfolding read_run
 returns c =
-    let t = c.args.text.now in
-    let e = sym c.number-first.ensures ∙ ap (numeral_in t) c.in-Read.is in
-    let g = sym c.skip-found.ensures ∙ ap (place_in t) c.in-At.is in
-    let h = sym c.read_number-second.ensures ∙ ap (numeral_in t) c.in-Read-second.is in
-    simp (e, g, h)
+    let e = sym c.in_ok-first.ensures in
+    let f = sym c.in_ok-dash.ensures in
+    let g = sym c.in_ok-second.ensures in
+    simp (e, f, g)

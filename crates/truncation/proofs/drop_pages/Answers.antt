@@ -13,6 +13,5 @@ pub returns : goal.returns
 unfolding below_count
 returns c =
     let a = c.args in
-    let p = c.retain-dirty in
-    let q = c.retain_clean-cache in
-    ap (λ (x : Pool). onto a.o a.size x (cache_out q.result q.new.clean)) p.ensures ∙ ap (onto a.o a.size _) q.ensures
+    let q = c.retain_clean_below in
+    ap (λ (x : Pool). onto a.o.now a.size x (cache_out q.new.c q.new.clean)) c.retain_below-o.ensures ∙ ap (onto a.o.now a.size _) q.ensures

@@ -1,4 +1,4 @@
--- `changes::truncation::zero_tail` meets its contract.
+-- `truncation::zero_tail` meets its contract.
 use mathlib.Core.Path.{sym, ◌∙◌}
 use native.Mathlib.Omega.{arith}
 use Rattle.growth.specs.GrowLaws.{tailed_none, tailed_touch}

@@ -19,11 +19,9 @@ pub returns-then-is_full_page : goal.returns-then-is_full_page
 returns-then-is_full_page c =
     let a = c.args in
     let t = sym c.is_full_page.ensures ∙ c.if-is_full_page.true in
-    let w = c.write_full_page.ensures a.clean.now a.«record».now a.mem.now a.image c.requires.0 in
-    w ∙ ap (λ (p : ℕ). touched 16384 8 18446744073709551615 a.image a.mem.now a.o (bufs a.frames.now a.numbers.now a.clean.now a.«record».now) false (copy 16384 (p * 16384) a.bytes.now) p) c.page_no-page.ensures
-    ∙ puts_whole 16384 8 (omega arith) a.o (bufs a.frames.now a.numbers.now a.clean.now a.«record».now) c.requires.0 18446744073709551615 a.image a.mem.now a.offset a.bytes.now t
+    let w = c.write_full_page.ensures a.clean.now a.«record».now a.stored.mem.now a.stored.image c.requires.0 in
+    w ∙ ap (λ (p : ℕ). touched 16384 8 18446744073709551615 a.stored.image a.stored.mem.now a.o.now (bufs a.frames.now a.numbers.now a.clean.now a.«record».now) false (copy 16384 (p * 16384) a.bytes.now) p) c.page_no-page.ensures
+    ∙ puts_whole 16384 8 (omega arith) _ _ c.requires.0 _ _ _ _ _ t
 
 pub returns : goal.returns
-returns c =
-    let a = c.args in
-    c.write_pages.ensures ∙ puts_pages 16384 8 (omega arith) a.o (bufs a.frames.now a.numbers.now a.clean.now a.«record».now) c.requires.0 18446744073709551615 a.image a.mem.now a.offset a.bytes.now (sym c.is_full_page.ensures ∙ c.if-is_full_page.false)
+returns c = c.write_pages.ensures ∙ puts_pages 16384 8 (omega arith) _ _ c.requires.0 _ _ _ _ _ (sym c.is_full_page.ensures ∙ c.if-is_full_page.false)

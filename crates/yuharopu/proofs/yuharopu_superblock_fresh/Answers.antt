@@ -16,4 +16,4 @@ pub returns : goal.returns
 unfolding fresh_fields
 returns c = let s = c.args.fields.now in
     rw (le-ltb _ _ c.if-fields-lt-NUMBERS.false)
-    (ap (answer 0) (c.copy_numbers.ensures ∙ ap (λ (n : List ℕ). overwrite 0 n s) (c.numbers-numbers.ensures ∙ ap numbers_of c.fresh.ensures)))
+    (ap (answer 0) (c.write.ensures ∙ ap (λ (n : List ℕ). overwrite 0 n s) (c.numbers.ensures ∙ ap numbers_of c.fresh.ensures)))

@@ -1,5 +1,5 @@
 -- `zero_pages::is_zero` meets its contract: a turn asks the first of the runs that are left.
-use Rattle.std.proofs.Common.{◌≡◌, ℕ, suc, ◌+◌, ◌≤◌, ◌<◌, refl, sym, ap, ◌∙◌, add-one, List, length, get_or, drop, true, false, Bool, drop-cons, drop_of_length-le}
+use Rattle.std.proofs.Common.{◌≡◌, ℕ, suc, ◌+◌, ◌≤◌, ◌<◌, refl, sym, ap, ◌∙◌, arith, add-one, List, length, get_or, drop, true, false, Bool, drop-cons, drop_of_length-le}
 use mathlib.Core.Bool.{◌||◌}
 use Rattle.meta.specs.declared.ZeroExtent.{ZeroExtent}
 use Rattle.meta.specs.Runs.{run}
@@ -22,14 +22,14 @@ module _ (ys : List ZeroExtent) (page : ℕ) where
   over_all : (i : ℕ) → length ys ≤ i → From i → false ≡ covers ys page
   over_all i l f = sym (f ∙ ap (λ (zs : List ZeroExtent). covers zs page) (drop_of_length-le ys {i = i} l))
 
-pub loop-i-init : goal.loop-i-init
-loop-i-init c = refl
+pub loop-x-init : goal.loop-x-init
+loop-x-init c = refl
 
 pub returns-then-in_run : goal.returns-then-in_run
-returns-then-in_run c = hit c.args.extents.now c.args.page c.loop-i.i c.loop-i-test.true c.loop-i.invariant c.if-in_run.ensures
+returns-then-in_run c = hit c.args.extents.now c.args.page c.loop-x.x-index (omega arith) c.loop-x.invariant c.if-in_run.ensures
 
-pub loop-i-preserved : goal.loop-i-preserved
-loop-i-preserved c = missed c.args.extents.now c.args.page c.loop-i.i c.loop-i-test.true c.loop-i.invariant c.if-in_run.ensures
+pub loop-x-preserved : goal.loop-x-preserved
+loop-x-preserved c = missed c.args.extents.now c.args.page c.loop-x.x-index (omega arith) c.loop-x.invariant c.if-in_run.ensures
 
 pub returns : goal.returns
-returns c = over_all c.args.extents.now c.args.page c.loop-i.i c.loop-i-test.false c.loop-i.invariant
+returns c = over_all c.args.extents.now c.args.page c.loop-x.x-index (omega arith) c.loop-x.invariant

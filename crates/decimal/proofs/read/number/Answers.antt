@@ -1,23 +1,30 @@
 -- `decimal::number` meets its contract: each return is a law of the definition.
-use mathlib.Core.Path.{sym, ap, ◌∙◌}
-use native.Mathlib.Omega.{arith}
-use Prim.Native.Nat.{ℕ, ◌-◌}
-use Rattle.decimal.specs.Read.{digit_means, number_out, number_other, number_alone, number_on}
+use Rattle.std.proofs.Common.{◌≡◌, ◌-◌, ℕ, sym, ap, ◌∙◌, get_or, arith}
+use Rattle.decimal.specs.Places.{numeral_in}
+use Rattle.decimal.specs.Text.{is_digit}
+use Rattle.decimal.specs.Read.{digit_is, number_out, number_other, number_alone, number_on}
 use Rattle.decimal.proofs.read.number.Goals as goal
 
-pub returns-then-text-at : goal.returns-then-text-at
-returns-then-text-at c = sym (number_out _ _ c.if-text-at.true)
+pub returns-in_err-first : goal.returns-in_err-first
+returns-in_err-first c =
+    let past = c.in_err-first.ensures.lookup.3 in
+    ap (numeral_in c.args.text.now) c.from_residual.ensures ∙ sym (number_out c.args.text.now c.args.at (omega arith))
 
-pub returns-then-not-is_digit : goal.returns-then-not-is_digit
-returns-then-not-is_digit c = sym (number_other _ _ c.if-text-at.false (sym c.is_digit.ensures ∙ c.if-not-is_digit.true))
+pub returns-then-not-is_ascii_digit : goal.returns-then-not-is_ascii_digit
+returns-then-not-is_ascii_digit c =
+    let found = c.in_ok-first.ensures.lookup.3 in
+    let d = ap is_digit (sym (found.1 0)) ∙ sym (c.if-not-is_ascii_digit.ensures.value ∙ digit_is _) in
+    sym (number_other c.args.text.now c.args.at found.0 d)
 
 pub returns-then-first-eq48 : goal.returns-then-first-eq48
-returns-then-first-eq48 c = sym (number_alone _ _ c.if-text-at.false c.if-first-eq48.true)
-
-pub overflow_sub-wide : goal.overflow_sub-wide
-overflow_sub-wide c = omega (arith, digit_means _ (sym c.is_digit.ensures ∙ c.if-not-is_digit.false))
+returns-then-first-eq48 c =
+    let found = c.in_ok-first.ensures.lookup.3 in
+    sym (number_alone c.args.text.now c.args.at found.0 (sym (found.1 0) ∙ c.if-first-eq48.true))
 
 pub returns : goal.returns
 returns c =
-    let d = sym c.is_digit.ensures ∙ c.if-not-is_digit.false in
-    c.digits.ensures ∙ sym (number_on c.args.text.now c.args.at _ (omega arith) d c.if-first-eq48.false (ap (λ (x : ℕ). x - 48) c.wide.ensures))
+    let found = c.in_ok-first.ensures.lookup.3 in
+    let t = c.args.text.now in
+    let d = ap is_digit (sym (found.1 0)) ∙ sym (c.if-not-is_ascii_digit.ensures.value ∙ digit_is _) in
+    let e : c.from.result ≡ get_or t c.args.at 0 - 48 = c.from.ensures ∙ ap (λ (x : ℕ). x - 48) (found.1 0) in
+    c.digits.ensures ∙ sym (number_on t c.args.at c.from.result found.0 d (λ z. c.if-first-eq48.false (found.1 0 ∙ z)) e)

@@ -1,20 +1,10 @@
--- `memory::fill` meets its contract: before each turn the first `i` bytes are zeros and the others as they were.
-use mathlib.Core.Path.{refl, ◌∙◌}
-use Prim.Native.Nat.{◌<◌}
-use native.Mathlib.Omega.{arith}
-use lib.ListN.{length, length-set}
-use borrow.Author.Fill.{fill_none, fill_more}
-use borrow.Author.Rules.{rules}
-use Rattle.memory.specs.Laws.{fill_end}
+-- `memory::fill` meets its contract: before each turn the elements before `x` are `value` and the others as they were.
+use Rattle.std.proofs.Common.{arith, ◌∙◌}
+use Rattle.memory.specs.Laws.{fill_more, fill_end}
 use Rattle.memory.proofs.part.fill.Goals as goal
 
-pub loop-i-init : goal.loop-i-init
-loop-i-init c = (search rules, (refl, fill_none c.args.dst.now 0))
-
-pub loop-i-preserved : goal.loop-i-preserved
-loop-i-preserved c = let d = c.args.dst.now in
-    let h : c.loop-i.i < length d = omega arith in
-    (omega arith, (simp length-set c.loop-i.invariant.1.0, rw c.loop-i.invariant.1.1 (fill_more c.loop-i.i 0 d h)))
+pub loop-x-preserved : goal.loop-x-preserved
+loop-x-preserved g c = rw c.loop-x.invariant (fill_more c.args.value c.loop-x.x-index c.args.dst.now (omega arith))
 
 pub returns : goal.returns
-returns c = c.loop-i.invariant.1.1 ∙ fill_end c.loop-i.i c.args.dst.now (omega arith)
+returns g c = c.loop-x.invariant ∙ fill_end c.args.value c.loop-x.x-index c.args.dst.now (omega arith)

@@ -10,8 +10,8 @@ returns-then-dst-at c = sym (overwrite_out _ _ _ c.if-dst-at.true)
 
 pub returns : goal.returns
 returns c = let s = c.args in
-    let k = c.least.result in
+    let k = c.min.result in
     let e : s.at + k - s.at ≡ k = omega arith in
     rw (c.fill.ensures, e)
-    (part_filled s.at k s.dst.now (omega (arith, c.least.ensures))
-    ∙ overwrite_few s.at k s.n s.dst.now c.least.ensures)
+    (part_filled s.at k s.dst.now (omega (arith, c.min.ensures))
+    ∙ overwrite_few s.at k s.n s.dst.now c.min.ensures)

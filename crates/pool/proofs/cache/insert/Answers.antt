@@ -12,47 +12,47 @@ use Rattle.update.specs.ImageLaws.{length-image_page, page_is}
 use Rattle.update.specs.Frames.{cache_out}
 use Rattle.pool.specs.CacheLaws.{room_count, room-length, laid_insert}
 use Rattle.pool.proofs.cache.insert.Goals as goal
-use Rattle.pool.proofs.cache.insert.Goals.{After-make_room-room}
+use Rattle.pool.proofs.cache.insert.Goals.{After-make_room}
 
 -- a frame is free, and the frames are as many as before
-few : (c : After-make_room-room) → (c.make_room-room.result.count < 8) × (131072 ≤ length c.make_room-room.new.clean)
+few : (c : After-make_room) → (c.make_room.new.c.count < 8) × (131072 ≤ length c.make_room.new.clean)
 few c =
-    let x = cache_out c.make_room-room.result c.make_room-room.new.clean in (
-      room_count 16384 8 c.args.c c.requires.0 c.args.clean.now x (omega arith) c.make_room-room.ensures,
-      omega (arith, c.requires.1, room-length 16384 8 c.args.c c.requires.0 c.args.clean.now x (omega arith) c.make_room-room.ensures),
+    let x = cache_out c.make_room.new.c c.make_room.new.clean in (
+      room_count 16384 8 c.args.c.now c.requires.0 c.args.clean.now x (omega arith) c.make_room.ensures,
+      omega (arith, c.requires.1, room-length 16384 8 c.args.c.now c.requires.0 c.args.clean.now x (omega arith) c.make_room.ensures),
     )
 
 pub overflow_mul-from : goal.overflow_mul-from
-overflow_mul-from c = omega (arith, few (goal.at.overflow_mul-from c).After-make_room-room)
+overflow_mul-from c = omega (arith, few (goal.at.overflow_mul-from c).After-make_room)
 
 pub overflow_add-end : goal.overflow_add-end
-overflow_add-end c = omega (arith, few (goal.at.overflow_add-end c).After-make_room-room)
+overflow_add-end c = omega (arith, few (goal.at.overflow_add-end c).After-make_room)
 
 pub slice_bounds-read_image-end : goal.slice_bounds-read_image-end
-slice_bounds-read_image-end c = omega (arith, few (goal.at.slice_bounds-read_image-end c).After-make_room-room)
+slice_bounds-read_image-end c = omega (arith, few (goal.at.slice_bounds-read_image-end c).After-make_room)
 
-pub offset_bounds-pages-at : goal.offset_bounds-pages-at
-offset_bounds-pages-at c = omega (arith, few (goal.at.offset_bounds-pages-at c).After-make_room-room)
+pub offset_bounds-c-at : goal.offset_bounds-c-at
+offset_bounds-c-at c = omega (arith, few (goal.at.offset_bounds-c-at c).After-make_room)
 
-pub bounds-pages-at : goal.bounds-pages-at
-bounds-pages-at c = omega (arith, few (goal.at.bounds-pages-at c).After-make_room-room)
+pub bounds-c-at : goal.bounds-c-at
+bounds-c-at c = omega (arith, few (goal.at.bounds-c-at c).After-make_room)
 
-pub overflow_add-result : goal.overflow_add-result
-overflow_add-result c = omega (arith, few (goal.at.overflow_add-result c).After-make_room-room)
+pub overflow_add-c : goal.overflow_add-c
+overflow_add-c c = omega (arith, few (goal.at.overflow_add-c c).After-make_room)
 
 pub returns : goal.returns
 returns c =
     let a = c.args in
-    let n = c.make_room-room.result.count in
-    let l : List ℕ = c.make_room-room.new.clean in
+    let n = c.make_room.new.c.count in
+    let l : List ℕ = c.make_room.new.clean in
     let new : List ℕ = c.read_image.new.dst in
     let k : ℕ = n * 16384 + 16384 - n * 16384 in
     let e : k ≡ 16384 = omega arith in
-    let fits : n * 16384 + k ≤ length l = omega (arith, few (goal.at.returns c).After-make_room-room) in
+    let fits : n * 16384 + k ≤ length l = omega (arith, few (goal.at.returns c).After-make_room) in
     let long : length (take k (drop (n * 16384) l)) ≡ 16384 = length_part (n * 16384) k l fits ∙ e in
-    let image : new ≡ image_page 16384 (image_in 16384 a.image a.mem.now) a.page =
-    c.read_image.ensures ∙ ap (image_part 16384 a.image a.mem.now (a.page * 16384)) long ∙ page_is 16384 (omega arith) a.image a.mem.now a.page in
-    let back : put_mid (n * 16384) k l new ≡ overwrite (n * 16384) (image_page 16384 (image_in 16384 a.image a.mem.now) a.page) l =
-    part_back (n * 16384) k l new (ap length image ∙ length-image_page 16384 (image_in 16384 a.image a.mem.now) a.page ∙ sym e) fits ∙ ap (λ (y : List ℕ). overwrite (n * 16384) y l) image in
-    ap (cache_out (record { pages = set c.make_room-room.result.pages n a.page; count = n + 1 })) back
-    ∙ laid_insert 16384 8 a.c c.requires.0 a.clean.now (cache_out c.make_room-room.result l) (omega arith) c.make_room-room.ensures (image_in 16384 a.image a.mem.now) a.page c.requires.1
+    let image : new ≡ image_page 16384 (image_in 16384 a.stored.image a.stored.mem.now) a.page =
+    c.read_image.ensures ∙ ap (image_part 16384 a.stored.image a.stored.mem.now (a.page * 16384)) long ∙ page_is 16384 (omega arith) a.stored.image a.stored.mem.now a.page in
+    let back : put_mid (n * 16384) k l new ≡ overwrite (n * 16384) (image_page 16384 (image_in 16384 a.stored.image a.stored.mem.now) a.page) l =
+    part_back (n * 16384) k l new (ap length image ∙ length-image_page 16384 (image_in 16384 a.stored.image a.stored.mem.now) a.page ∙ sym e) fits ∙ ap (λ (y : List ℕ). overwrite (n * 16384) y l) image in
+    ap (cache_out (record { pages = set c.make_room.new.c.pages n a.page; count = n + 1 })) back
+    ∙ laid_insert 16384 8 a.c.now c.requires.0 a.clean.now (cache_out c.make_room.new.c l) (omega arith) c.make_room.ensures (image_in 16384 a.stored.image a.stored.mem.now) a.page c.requires.1

@@ -8,10 +8,10 @@ use Rattle.pool.proofs.image.read_stored.Goals as goal
 pub slice_bounds-read-end : goal.slice_bounds-read-end
 slice_bounds-read-end c =
     let end = c.reach-end in
-    omega (arith, end.ensures, length-take end.result c.args.mem.now)
+    omega (arith, end.ensures, length-take end.result c.args.stored.mem.now)
 
 pub returns : goal.returns
 returns c =
     let a = c.args in
     c.read.ensures
-    ∙ stored_read a.image a.mem.now a.offset (length a.dst.now) c.reach-end.result c.reach-from.result c.reach-end.ensures c.reach-from.ensures
+    ∙ stored_read a.stored.image a.stored.mem.now a.offset (length a.dst.now) c.reach-end.result c.reach-from.result c.reach-end.ensures c.reach-from.ensures

@@ -1,11 +1,11 @@
 use mathlib.Core.Path.{◌≡◌}
-use Prim.Native.Nat.{◌+◌, ◌-◌, ◌≤◌, min}
-use lib.ListN.{length, take, drop}
+use Prim.Native.Nat.{◌+◌, ◌-◌, ◌≤◌}
+use lib.ListN.{length}
 use Rattle.update.specs.Pages.{place_of}
 use Rattle.pool.proofs.pages.find.Given as goal
 
-abbrev pub invariant-loop-i : goal.invariant-loop-i
-invariant-loop-i l = (l.have ≡ min l.count (length l.numbers)) × ((l.i ≤ l.have) × (place_of (take l.count l.numbers) l.page ≡ l.i + place_of (drop l.i (take l.count l.numbers)) l.page))
+abbrev pub invariant-loop-block : goal.invariant-loop-block
+invariant-loop-block l = (length l.rest ≤ length l.numbers) × (place_of l.numbers l.page ≡ length l.numbers - length l.rest + place_of l.rest l.page)
 
-abbrev pub decreases-loop-i : goal.decreases-loop-i
-decreases-loop-i l = l.have - l.i
+abbrev pub decreases-loop-block : goal.decreases-loop-block
+decreases-loop-block l = length l.rest

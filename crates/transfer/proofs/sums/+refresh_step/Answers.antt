@@ -8,13 +8,13 @@ use Rattle.transfer.proofs.sums.+refresh_step.Goals as goal
 pub returns-then-not-is_refreshing : goal.returns-then-not-is_refreshing
 returns-then-not-is_refreshing t c =
     let a = c.args in
-    c.refresh_from.ensures ∙ step_fresh a.block a.s a.mem.now a.n (sym c.is_refreshing.ensures ∙ c.if-not-is_refreshing.true)
+    c.refresh_from.ensures ∙ step_fresh a.block a.s.now a.mem.now a.n (sym c.is_refreshing.ensures ∙ c.if-not-is_refreshing.true)
 
 pub refresh_step-requires : goal.refresh_step-requires
 refresh_step-requires t c =
     let a = c.args in
     let now : pending a.block ≡ t = c.decreases in
-    let one : pending a.block ≡ 1 = pending_one a.block a.s a.mem.now a.n (sym c.is_refreshing.ensures ∙ c.if-not-is_refreshing.false) c.if-block.true in
+    let one : pending a.block ≡ 1 = pending_one a.block a.s.now a.mem.now a.n (sym c.is_refreshing.ensures ∙ c.if-not-is_refreshing.false) c.if-block.true in
     let none : pending c.without_refresh.result ≡ 0 = ap pending c.without_refresh.ensures ∙ pending_none a.block in
     let less : pending c.without_refresh.result < t = omega (arith, now, one, none) in
     (less, tt)
@@ -23,10 +23,10 @@ pub returns-then-block : goal.returns-then-block
 returns-then-block t c =
     let a = c.args in
     c.refresh_step.ensures
-    ∙ ap (λ (k : Superblock). refresh_step_to a.s a.mem.now k a.n) c.without_refresh.ensures
-    ∙ step_anew a.block a.s a.mem.now a.n (sym c.is_refreshing.ensures ∙ c.if-not-is_refreshing.false) c.if-block.true
+    ∙ ap (λ (k : Superblock). refresh_step_to a.s.now a.mem.now k a.n) c.without_refresh.ensures
+    ∙ step_anew a.block a.s.now a.mem.now a.n (sym c.is_refreshing.ensures ∙ c.if-not-is_refreshing.false) c.if-block.true
 
 pub returns : goal.returns
 returns t c =
     let a = c.args in
-    c.refresh_from-2.ensures ∙ step_onward a.block a.s a.mem.now a.n (sym c.is_refreshing.ensures ∙ c.if-not-is_refreshing.false) c.if-block.false
+    c.refresh_from-2.ensures ∙ step_onward a.block a.s.now a.mem.now a.n (sym c.is_refreshing.ensures ∙ c.if-not-is_refreshing.false) c.if-block.false

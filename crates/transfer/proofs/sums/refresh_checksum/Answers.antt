@@ -1,29 +1,23 @@
-use mathlib.Core.Path.{refl, ◌∙◌, ap}
-use mathlib.Core.List.{[]}
-use Rattle.config.specs.declared.refusal.Refusal.TheVariants.{BufferTooShort, UpdateInProgress}
-use Rattle.store.specs.Calls.{refresh}
-use Rattle.transfer.specs.StoreCases.{refused_as, answered_as, too_short_lem, is_lent, short_refused, updating_refused, idle_acts, refresh_done}
+-- `transfer::sums::refresh_checksum` meets its contract.
+use Rattle.std.proofs.Common.{refl, sym, ap, ◌∙◌, ℕ}
+use Rattle.std.proofs.lemmas.Result.{err_from_is_err_and}
 use Rattle.meta.specs.declared.superblock.Superblock.{Superblock}
-use Rattle.store.specs.declared.Answer.TheVariants.{Checksum}
+use Rattle.store.specs.Answers.{Checksum}
+use Rattle.store.specs.Calls.{refresh}
 use Rattle.transfer.specs.Steps.{restore_to}
-use mathlib.Core.Bool.{not}
+use Rattle.transfer.specs.StoreCases.{refused_exit, admitted, stored_as, answered_with, refresh_done}
 use Rattle.transfer.proofs.sums.refresh_checksum.Goals as goal
 
-pub returns-then-not-is_lent : goal.returns-then-not-is_lent
-returns-then-not-is_lent c =
+pub returns-in_err-admit : goal.returns-in_err-admit
+returns-in_err-admit c =
     let a = c.args in
-    λ b w. refused_as a.s a.mem.now b w BufferTooShort [] c.refuse.result _ c.refuse.ensures
-    (short_refused a.s a.mem.now b w refresh refl (too_short_lem a.s a.mem.now c.is_lent.result c.is_lent.ensures (ap not c.if-not-is_lent.true)))
-
-pub returns-then-s : goal.returns-then-s
-returns-then-s c =
-    let a = c.args in
-    λ b w. refused_as a.s a.mem.now b w UpdateInProgress [] c.refuse-then-s.result _ c.refuse-then-s.ensures
-    (updating_refused a.s a.mem.now b w refresh refl (is_lent a.s a.mem.now c.is_lent.result c.is_lent.ensures (ap not c.if-not-is_lent.false)) c.if-s.true)
+    let p = err_from_is_err_and c.from_residual.result c.from_residual.ensures.1 in
+    refused_exit a.s.now a.mem.now refresh refl (λ x. Checksum x) c.from_residual.result _ _ p.1 p.2 (sym c.admit.ensures ∙ c.in_err-admit.was)
 
 pub returns : goal.returns
 returns c =
     let a = c.args in
-    λ b w. answered_as b w c.restore.result c.restore.new.mem _ _
-    (c.restore.ensures ∙ ap (λ (k : Superblock). restore_to a.s a.mem.now k (Checksum c.sum_of-sum.result)) c.after_refresh.ensures)
-    (idle_acts a.s a.mem.now b w refresh refl (is_lent a.s a.mem.now c.is_lent.result c.is_lent.ensures (ap not c.if-not-is_lent.false)) c.if-s.false ∙ refresh_done a.s a.mem.now b w c.sum_of-sum.result c.sum_of-sum.ensures)
+    let sum : ℕ = c.sum_of-sum.result in
+    λ b w. answered_with c.restore.new.s c.restore.new.mem (Checksum sum) b w _ _
+    (stored_as a.s.now c.restore.new.s a.mem.now c.restore.new.mem _ (Checksum sum) c.restore.ensures ∙ ap (λ (k : Superblock). restore_to a.s.now a.mem.now k (Checksum sum)) c.after_refresh.ensures)
+    (admitted a.s.now a.mem.now refresh refl b w (sym c.admit.ensures ∙ c.in_ok-admit.was) ∙ refresh_done a.s.now a.mem.now b w sum c.sum_of-sum.ensures)

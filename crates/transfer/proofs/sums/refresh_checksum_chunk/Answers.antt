@@ -1,38 +1,31 @@
-use mathlib.Core.Path.{refl, sym, ◌∙◌}
-use mathlib.Core.List.{[]}
-use Rattle.config.specs.declared.refusal.Refusal.TheVariants.{BufferTooShort, UpdateInProgress, ChecksumRefreshChunkEmpty, ImportAlreadyStarted}
+-- `transfer::sums::refresh_checksum_chunk` meets its contract.
+use Rattle.std.proofs.Common.{refl, sym, ◌∙◌}
+use Rattle.std.proofs.lemmas.Result.{err_from_is_err_and}
+use Rattle.store.specs.Answers.{Refreshed}
 use Rattle.store.specs.Calls.{refresh_step}
-use Rattle.transfer.specs.StoreCases.{refused_as, answered_as, too_short_lem, is_lent, short_refused, updating_refused, idle_acts, step_empty, step_importing, step_done}
-use mathlib.Core.Path.{ap}
-use mathlib.Core.Bool.{not}
+use Rattle.transfer.specs.StoreCases.{refused_exit, admitted, answered_with, step_empty, step_importing, step_done}
 use Rattle.transfer.proofs.sums.refresh_checksum_chunk.Goals as goal
 
-pub returns-then-not-is_lent : goal.returns-then-not-is_lent
-returns-then-not-is_lent c =
+pub returns-in_err-admit : goal.returns-in_err-admit
+returns-in_err-admit c =
     let a = c.args in
-    λ b w. refused_as a.s a.mem.now b w BufferTooShort [] c.refuse.result _ c.refuse.ensures
-    (short_refused a.s a.mem.now b w (refresh_step a.n) refl (too_short_lem a.s a.mem.now c.is_lent.result c.is_lent.ensures (ap not c.if-not-is_lent.true)))
-
-pub returns-then-s : goal.returns-then-s
-returns-then-s c =
-    let a = c.args in
-    λ b w. refused_as a.s a.mem.now b w UpdateInProgress [] c.refuse-then-s.result _ c.refuse-then-s.ensures
-    (updating_refused a.s a.mem.now b w (refresh_step a.n) refl (is_lent a.s a.mem.now c.is_lent.result c.is_lent.ensures (ap not c.if-not-is_lent.false)) c.if-s.true)
+    let p = err_from_is_err_and c.from_residual.result c.from_residual.ensures.1 in
+    refused_exit a.s.now a.mem.now (refresh_step a.n) refl (λ x. Refreshed x) c.from_residual.result _ _ p.1 p.2 (sym c.admit.ensures ∙ c.in_err-admit.was)
 
 pub returns-then-n-eq0 : goal.returns-then-n-eq0
 returns-then-n-eq0 c =
     let a = c.args in
-    λ b w. refused_as a.s a.mem.now b w ChecksumRefreshChunkEmpty [] c.refuse-then-n-eq0.result _ c.refuse-then-n-eq0.ensures
-    (idle_acts a.s a.mem.now b w (refresh_step a.n) refl (is_lent a.s a.mem.now c.is_lent.result c.is_lent.ensures (ap not c.if-not-is_lent.false)) c.if-s.false ∙ step_empty a.s a.mem.now b w a.n c.if-n-eq0.true)
+    λ b w. sym (admitted a.s.now a.mem.now (refresh_step a.n) refl b w (sym c.admit.ensures ∙ c.in_ok-admit.was) ∙ step_empty a.s.now a.mem.now b w a.n c.if-n-eq0.true)
 
 pub returns-then-is_importing : goal.returns-then-is_importing
 returns-then-is_importing c =
     let a = c.args in
-    λ b w. refused_as a.s a.mem.now b w ImportAlreadyStarted [] c.refuse-then-is_importing.result _ c.refuse-then-is_importing.ensures
-    (idle_acts a.s a.mem.now b w (refresh_step a.n) refl (is_lent a.s a.mem.now c.is_lent.result c.is_lent.ensures (ap not c.if-not-is_lent.false)) c.if-s.false ∙ step_importing a.s a.mem.now b w a.n c.if-n-eq0.false (sym c.is_importing.ensures ∙ c.if-is_importing.true))
+    λ b w. sym (admitted a.s.now a.mem.now (refresh_step a.n) refl b w (sym c.admit.ensures ∙ c.in_ok-admit.was)
+    ∙ step_importing a.s.now a.mem.now b w a.n c.if-n-eq0.false (sym c.is_importing.ensures ∙ c.if-is_importing.true))
 
 pub returns : goal.returns
 returns c =
     let a = c.args in
-    λ b w. answered_as b w c.refresh_step.result c.refresh_step.new.mem _ _ c.refresh_step.ensures
-    (idle_acts a.s a.mem.now b w (refresh_step a.n) refl (is_lent a.s a.mem.now c.is_lent.result c.is_lent.ensures (ap not c.if-not-is_lent.false)) c.if-s.false ∙ step_done a.s a.mem.now b w a.n c.if-n-eq0.false (sym c.is_importing.ensures ∙ c.if-is_importing.false))
+    λ b w. answered_with _ _ (Refreshed c.refresh_step.result) b w _ _ c.refresh_step.ensures
+    (admitted a.s.now a.mem.now (refresh_step a.n) refl b w (sym c.admit.ensures ∙ c.in_ok-admit.was)
+    ∙ step_done a.s.now a.mem.now b w a.n c.if-n-eq0.false (sym c.is_importing.ensures ∙ c.if-is_importing.false))

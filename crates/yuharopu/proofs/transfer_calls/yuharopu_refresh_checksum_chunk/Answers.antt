@@ -1,26 +1,15 @@
 -- `transfer_calls::yuharopu_refresh_checksum_chunk` meets its contract.
 use Rattle.store.specs.Calls.{refresh_step}
 use Rattle.transfer.specs.OnMemory.{lent}
-use Rattle.encoding.specs.Called.{call_done, call_short}
-use Rattle.yuharopu.specs.StoreCalls.{enough, is_long, is_short, lengths}
+use Rattle.encoding.specs.Called.{call_none, call_some}
 use Rattle.yuharopu.proofs.transfer_calls.yuharopu_refresh_checksum_chunk.Goals as goal
 
-pub returns-then-are_short : goal.returns-then-are_short
-returns-then-are_short c =
+pub returns-in_default : goal.returns-in_default
+returns-in_default c =
     let a = c.args in
-    λ b w. call_short a.state.now a.answer.now (lent a.mem.now b w) (refresh_step a.n) (is_short a.state.now a.answer.now _ c.are_short.ensures c.if-are_short.true)
-
-pub decode-requires : goal.decode-requires
-decode-requires c =
-    let a = c.args in
-    enough a.state.now a.answer.now _ c.are_short.ensures c.if-are_short.false
-
-pub show-requires : goal.show-requires
-show-requires c =
-    let a = c.args in
-    lengths a.state.now a.answer.now _ c.are_short.ensures c.if-are_short.false
+    λ b w. call_none a.state.now a.answer.now c.in_default.ensures.state (lent a.mem.now b w) (refresh_step a.n)
 
 pub returns : goal.returns
 returns c =
     let a = c.args in
-    λ b w. call_done a.state.now a.answer.now (is_long a.state.now a.answer.now _ c.are_short.ensures c.if-are_short.false) _ _ _ (refresh_step a.n) _ c.decode.ensures (c.refresh_checksum_chunk-step.ensures b w) c.show.ensures
+    λ b w. call_some a.state.now a.answer.now _ c.in-Some.ensures.state _ _ (refresh_step a.n) _ (c.refresh_checksum_chunk-answered.ensures b w) c.show.ensures

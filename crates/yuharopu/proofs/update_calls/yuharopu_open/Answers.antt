@@ -1,19 +1,13 @@
 -- `update_calls::yuharopu_open` meets its contract.
-use Rattle.encoding.specs.Called.{open_done, open_short}
-use Rattle.yuharopu.specs.StoreCalls.{is_long, is_short, lengths}
+use Rattle.encoding.specs.Called.{open_none, open_some}
 use Rattle.yuharopu.proofs.update_calls.yuharopu_open.Goals as goal
 
-pub returns-then-are_short : goal.returns-then-are_short
-returns-then-are_short c =
+pub returns-in_default : goal.returns-in_default
+returns-in_default c =
     let a = c.args in
-    open_short a.state.now a.answer.now a.mem.now a.count (is_short a.state.now a.answer.now _ c.are_short.ensures c.if-are_short.true)
-
-pub show-requires : goal.show-requires
-show-requires c =
-    let a = c.args in
-    lengths a.state.now a.answer.now _ c.are_short.ensures c.if-are_short.false
+    open_none a.state.now a.answer.now c.in_default.ensures.state a.mem.now a.count
 
 pub returns : goal.returns
 returns c =
     let a = c.args in
-    open_done a.state.now a.answer.now (is_long a.state.now a.answer.now _ c.are_short.ensures c.if-are_short.false) _ _ _ _ c.open-step.ensures c.show.ensures
+    open_some a.state.now a.answer.now _ c.in-Some.ensures.state _ _ _ _ c.open-answered.ensures c.show.ensures

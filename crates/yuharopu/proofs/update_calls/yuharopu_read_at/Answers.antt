@@ -2,26 +2,15 @@
 use Rattle.update.specs.Laid.{bufs}
 use Rattle.store.specs.Calls.{read}
 use Rattle.transfer.specs.OnMemory.{lent}
-use Rattle.encoding.specs.Called.{call_done, call_short}
-use Rattle.yuharopu.specs.StoreCalls.{enough, is_long, is_short, lengths}
+use Rattle.encoding.specs.Called.{call_none, call_some}
 use Rattle.yuharopu.proofs.update_calls.yuharopu_read_at.Goals as goal
 
-pub returns-then-are_short : goal.returns-then-are_short
-returns-then-are_short c =
+pub returns-in_default : goal.returns-in_default
+returns-in_default c =
     let a = c.args in
-    λ w. call_short a.state.now a.answer.now (lent a.mem.now (bufs a.frames.now a.numbers.now a.clean.now a.«record».now) w) (read a.offset a.dst.now) (is_short a.state.now a.answer.now _ c.are_short.ensures c.if-are_short.true)
-
-pub decode-requires : goal.decode-requires
-decode-requires c =
-    let a = c.args in
-    enough a.state.now a.answer.now _ c.are_short.ensures c.if-are_short.false
-
-pub show-requires : goal.show-requires
-show-requires c =
-    let a = c.args in
-    lengths a.state.now a.answer.now _ c.are_short.ensures c.if-are_short.false
+    λ w. call_none a.state.now a.answer.now c.in_default.ensures.state (lent a.mem.now (bufs a.frames.now a.numbers.now a.clean.now a.«record».now) w) (read a.offset a.dst.now)
 
 pub returns : goal.returns
 returns c =
     let a = c.args in
-    λ w. call_done a.state.now a.answer.now (is_long a.state.now a.answer.now _ c.are_short.ensures c.if-are_short.false) _ _ _ (read a.offset a.dst.now) _ c.decode.ensures (c.read_at-step.ensures w) c.show.ensures
+    λ w. call_some a.state.now a.answer.now _ c.in-Some.ensures.state _ _ (read a.offset a.dst.now) _ (c.read_at-answered.ensures w) c.show.ensures

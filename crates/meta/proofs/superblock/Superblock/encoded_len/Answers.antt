@@ -6,4 +6,4 @@ use Rattle.meta.proofs.superblock.Superblock.encoded_len.Goals as goal
 
 pub returns : goal.returns
 unfolding encoded_len
-returns c = ap (λ (n : ℕ). 160 + n * 16) c.least-runs.ensures
+returns c = ap (λ (n : ℕ). 160 + n * 16) c.min-runs.ensures

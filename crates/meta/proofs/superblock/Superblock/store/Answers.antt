@@ -4,7 +4,7 @@ use mathlib.Core.List.{[]}
 use Prim.Native.Nat.{◌≤◌}
 use native.Mathlib.Omega.{arith}
 use lib.ListN.{length, take, length-take}
-use Rattle.memory.specs.Bytes.{zeros, overwrite}
+use Rattle.memory.specs.Bytes.{overwrite, filled}
 use Rattle.meta.specs.Block.{encoded_len, prefix, store_in, encode as encoded, seal as sealed}
 use Rattle.meta.specs.BlockLaws.{length-encode, encoded_len-hi}
 use Rattle.meta.specs.Stored.{Outcome, outcome}
@@ -24,7 +24,7 @@ fits c =
     omega (arith, c.encoded_len-n.ensures, encoded_len-hi c.seal-block.result [])
 
 pub seal-block-requires : goal.seal-block-requires
-unfolding zeros
+unfolding filled
 seal-block-requires c = refl
 
 pub slice_bounds-bytes-end : goal.slice_bounds-bytes-end
