@@ -1,14 +1,53 @@
-// Writes and truncations, in an update or direct. Two functions: of what a closure over the overlay's call would leave in the slices that it captures, nothing is known.
+// Writes and truncations, in an update or direct.
 ghost use Rattle.std.specs.Prelude.{◌≡◌, []};
 ghost use Rattle.update.specs.Laid.{bufs};
 ghost use Rattle.store.specs.Answers.{done};
-ghost use Rattle.store.specs.Calls.{write, truncate, out};
+ghost use Rattle.store.specs.Calls.{Call, write, truncate, out};
 ghost use Rattle.transfer.specs.OnMemory.{lent};
 ghost use Rattle.lending.specs.Lending.{calls};
+ghost use Rattle.blob.specs.Change.{IsChange};
 
 use config::Refusal;
 use store::State;
-use update::Stored;
+use update::{Overlay, Stored};
+
+// 35, then what `apply` makes of the overlay; a direct change then commits.
+fn change<F>(
+    s: &mut State,
+    mem: &mut [u8],
+    frames: &mut [u8],
+    numbers: &mut [u64],
+    clean: &mut [u8],
+    record: &mut [u64],
+    work: &mut [u64],
+    apply: F,
+) -> Result<(), Refusal>
+where
+    F: FnOnce(
+        &mut Overlay,
+        Stored<'_>,
+        &mut [u8],
+        &mut [u64],
+        &mut [u8],
+        &mut [u64],
+    ) -> Result<(), Refusal>,
+    requires callable { F.IsAlwaysCallable apply }
+    requires change { (c : Call) × IsChange F.FnOnce apply s.old (lent mem.old (bufs frames.old numbers.old clean.old «record».old) work.old) c }
+    ensures { (c : Call) → IsChange F.FnOnce apply s.old (lent mem.old (bufs frames.old numbers.old clean.old «record».old) work.old) c
+        → out s.new (lent mem.new (bufs frames.new numbers.new clean.new «record».new) work.new) (done result) []
+        ≡ calls s.old (lent mem.old (bufs frames.old numbers.old clean.old «record».old) work.old) c }
+{
+    if lending::any_is_short(s, mem, frames, numbers, clean, record, work) {
+        return Err(Refusal::BufferTooShort);
+    }
+    let mut o = settling::overlay_of(s);
+    let stored = Stored {
+        image: image::image_of(s.block),
+        mem,
+    };
+    let verdict = apply(&mut o, stored, frames, numbers, clean, record);
+    settling::settle(s, mem, frames, numbers, clean, record, work, &o, verdict)
+}
 
 // 35, then the tests of a write in the overlay; a direct one then commits.
 pub fn write_at(
@@ -25,22 +64,18 @@ pub fn write_at(
     ensures { out s.new (lent mem.new (bufs frames.new numbers.new clean.new «record».new) work.new) (done result) []
         ≡ calls s.old (lent mem.old (bufs frames.old numbers.old clean.old «record».old) work.old) (write offset bytes.now) }
 {
-    if lending::any_is_short(s, mem, frames, numbers, clean, record, work) {
-        return Err(Refusal::BufferTooShort);
-    }
-    let image = image::image_of(s.block);
-    let mut o = settling::overlay_of(s);
-    let written = overlay::write_at(
-        &mut o,
-        Stored { image, mem },
+    change(
+        s,
+        mem,
         frames,
         numbers,
         clean,
         record,
-        offset,
-        bytes,
-    );
-    settling::settle(s, mem, frames, numbers, clean, record, work, &o, written)
+        work,
+        |o, stored, frames, numbers, clean, record| {
+            overlay::write_at(o, stored, frames, numbers, clean, record, offset, bytes)
+        },
+    )
 }
 
 // 35, then the tests of a truncation in the overlay; a direct one then commits.
@@ -57,19 +92,16 @@ pub fn truncate(
     ensures { out s.new (lent mem.new (bufs frames.new numbers.new clean.new «record».new) work.new) (done result) []
         ≡ calls s.old (lent mem.old (bufs frames.old numbers.old clean.old «record».old) work.old) (truncate size) }
 {
-    if lending::any_is_short(s, mem, frames, numbers, clean, record, work) {
-        return Err(Refusal::BufferTooShort);
-    }
-    let image = image::image_of(s.block);
-    let mut o = settling::overlay_of(s);
-    let resized = overlay::truncate(
-        &mut o,
-        Stored { image, mem },
+    change(
+        s,
+        mem,
         frames,
         numbers,
         clean,
         record,
-        size,
-    );
-    settling::settle(s, mem, frames, numbers, clean, record, work, &o, resized)
+        work,
+        |o, stored, frames, numbers, clean, record| {
+            overlay::truncate(o, stored, frames, numbers, clean, record, size)
+        },
+    )
 }

@@ -2,7 +2,8 @@
 #![tactic(auto)]
 
 ghost use Rattle.std.specs.Prelude.{◌≡◌, false, ◌<◌, ◌/◌, ◌%◌, eqb};
-ghost use Rattle.store.specs.Blocks.{importing, stale, refreshing, marks, set_image, set_import, set_refresh, set_numbers, set_flags, after_commit, after_import_begin, after_import_chunk, after_import_cancel, after_import_finish, after_refresh, after_refresh_step};
+ghost use Rattle.store.specs.Blocks.{importing, stale, refreshing, marks, set_image, set_import, set_refresh, set_numbers, set_flags};
+ghost use Rattle.store.specs.Blocks.{after_commit, after_import_begin, after_import_chunk, after_import_cancel, after_import_finish, after_refresh, after_refresh_step};
 
 use meta::Superblock;
 
@@ -101,8 +102,10 @@ fn with_numbers(b: Superblock, schema: u64, tx: u64, checksum: u64) -> Superbloc
     }
 }
 
-// "then the superblock": of an update's commit, or of a direct call's.
-// `update` says which: a mark of what the block keeps, and no switch of steps.
+// "then the superblock: size, runs and page count; page-table offset 0; transaction number plus one, .. checksum marked stale; refresh
+// cleared. A direct write or truncation commits alike, but leaves transaction number, stale mark and refresh progress."
+// `update` stays a parameter, as 01 has one step for both: of two functions the one for an update would begin with the other's image, and
+// `commit::publish`, their only caller, which serves both, would hold this `if`.
 pub fn after_commit(b: Superblock, update: bool, size: u64, runs: u64) -> Superblock
     ensures { result ≡ after_commit 16384 18446744073709551615 update size runs b }
 {

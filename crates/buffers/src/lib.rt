@@ -1,5 +1,5 @@
 // The lent slices of an update: frames with their page numbers, clean frames, and the record.
-// The lent slices are parameters of their own, as `update::Stored` says.
+// Slices that are lent to be changed are parameters of their own, as `update::Stored` says.
 #![tactic(auto)]
 
 ghost use Rattle.std.specs.Prelude.{◌≡◌};
@@ -10,6 +10,7 @@ use config::PAGE_LEN;
 use update::{CleanCache, Overlay};
 
 // Whether a slice is shorter than what it holds, or the clean frames are under eight pages.
+// No `Frames` here: most callers hold the slices to change them, and one made for this call alone is no plainer.
 #[tactic(auto, unfolding(update::specs::Buffers::short_buffers, update::specs::Buffers::frame_count))]
 pub fn are_short(o: Overlay, frames: &[u8], numbers: &[u64], clean: &[u8], record: &[u64]) -> bool
     ensures { result ≡ short_buffers 16384 8 o (bufs frames.now numbers.now clean.now «record».now) }
@@ -26,7 +27,8 @@ pub fn settle(o: &mut Overlay)
     pool::settle(&mut o.cache);
 }
 
-// "is shown to callers as the part of the lent frames that holds it": empty if the page is not dirty.
+// "A dirty page is shown to callers as the part of the lent frames that holds it, empty if it is not dirty": a part either way, so no `Option`.
+// No `Frames`: the part is lent as long as the frames are, and their numbers need not be.
 pub fn dirty_page<'a>(o: Overlay, frames: &'a [u8], numbers: &[u64], page: u64) -> &'a [u8]
     ensures { result.now ≡ dirty_page 16384 8 o frames.now numbers.now page }
 {

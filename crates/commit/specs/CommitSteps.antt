@@ -1,7 +1,7 @@
 -- The commit as the code walks it.
-use Rattle.std.specs.Prelude.{◌≡◌, refl, Bool, true, false, cond, ◌&&◌, List, [], ◌∷◌, ltb, leb, eqb, length, take, replicate, Ok, Err, Option, Some, None}
+use Rattle.std.specs.Prelude.{◌≡◌, refl, Bool, true, false, cond, ◌&&◌, List, [], ◌∷◌, ◌++◌, ltb, leb, eqb, length, take, replicate, Ok, Err, Option, Some, None}
 use Rattle.std.proofs.Math.Path.{sym}
-use Rattle.std.proofs.Common.{take_all, ap, ◌∙◌, zero-mul, true≢false, length-drop, length-append, drop_of_length-le, lt-ltb, le-ltb, eq-eqb, ne_eqb}
+use Rattle.std.proofs.Common.{take_all, take_at, drop_at, ap, ◌∙◌, zero-mul, true≢false, length-drop, length-append, drop_of_length-le, lt-ltb, le-ltb, eq-eqb, ne_eqb}
 use Prim.Native.Nat.{ℕ, suc, ◌+◌, ◌-◌, ◌*◌, ◌/◌, ◌≤◌, ◌<◌, min}
 use Rattle.std.proofs.Math.Nat.{suc-mul}
 use native.Mathlib.Omega.{arith}
@@ -78,6 +78,24 @@ module _ (P S C L M : ℕ) (k : Codec) (base c : ℕ) (numbers frames : List ℕ
   pub rest_all : (m : List ℕ) → rest 0 m ≡ write_pages P S C L M k base c (pages_in P numbers frames) m
   unfolding rest
   rest_all m = rw (zero-mul P)
+
+-- the first of the pages left: a turn writes it, or leaves memory
+module _ (P S C L M : ℕ) (k : Codec) (base c n : ℕ) (ns bs fs : List ℕ) (long : length bs ≡ P) where
+  turn_first : (m : List ℕ) → write_pages P S C L M k base c (pages_in P (n ∷ ns) (bs ++ fs)) m
+      ≡ write_pages P S C L M k base c (pages_in P ns fs) (cond (ltb n c) (overwrite (base + n * P) bs m) m)
+  turn_first m = rw (resize-take P (bs ++ fs) (omega (arith, length-append bs fs, long)), take_at bs fs P long, drop_at bs fs P long)
+
+  module _ (all pool : List ℕ) (first : all ≡ n ∷ ns) (front : pool ≡ bs ++ fs) where
+    pub fewer : length all * P ≤ length pool → length ns * P ≤ length fs
+    fewer h = omega (arith, h, ap (λ (l : List ℕ). length l * P) first, ap length front, length-append bs fs, long, suc-mul (length ns) P)
+
+    pub first_skip : (m : List ℕ) → c ≤ n
+        → write_pages P S C L M k base c (pages_in P ns fs) m ≡ write_pages P S C L M k base c (pages_in P all pool) m
+    first_skip m h = sym (rw (first, front, turn_first m, le-ltb n c h))
+
+    pub first_page : (m m' : List ℕ) (at : ℕ) → n < c → at ≡ min (base + n * P) (length m) → m' ≡ overwrite at bs m
+        → write_pages P S C L M k base c (pages_in P ns fs) m' ≡ write_pages P S C L M k base c (pages_in P all pool) m
+    first_page m m' at h near new = sym (rw (first, front, turn_first m, lt-ltb n c h, new, near, overwrite_near (base + n * P) bs m))
 
 -- ## The answer of growth
 

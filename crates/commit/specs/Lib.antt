@@ -1,3 +1,4 @@
 pub mod Reach
 pub mod Committed
 pub mod CommitSteps
+pub mod Held

@@ -1,10 +1,11 @@
 // The commit: plan, then the end that memory must reach, then the pages in place, then the superblock.
-// The lent slices are parameters of their own, as `update::Stored` says.
+// The pages that it reads are `update::Frames`; the lent slices that it changes are parameters of their own, as `update::Stored` says.
 #![tactic(auto)]
 
-ghost use Rattle.std.specs.Prelude.{◌≡◌, ◌+◌, ◌*◌, ◌/◌, ◌≤◌, min, ◌∷◌, [], length, take};
+ghost use Rattle.std.specs.Prelude.{◌≡◌, ◌+◌, ◌*◌, ◌≤◌, min, ◌∷◌, [], length, take};
 ghost use Rattle.config.specs.Pages.{count};
 ghost use Rattle.extents.specs.Plan.{below};
+ghost use Rattle.extents.specs.Outcome.{room};
 ghost use Rattle.meta.specs.Runs.{runs_of, numbers_of};
 ghost use Rattle.memory.specs.Growth.{grow_to};
 ghost use Rattle.update.specs.Pages.{pages_in};
@@ -15,11 +16,13 @@ ghost use Rattle.store.specs.Codec.{real_codec};
 ghost use Rattle.store.specs.Plan.{store_plan, required};
 ghost use Rattle.store.specs.Store.{write_pages};
 ghost use Rattle.commit.specs.Committed.{left_by, outcome, settle_to, publish_to, commit_to};
+ghost use Rattle.commit.specs.Held.{Held, Whole};
 ghost use Rattle.commit.specs.Reach.{reach};
 
 use config::{PAGE_LEN, Refusal, SQLITE_PAGE_SIZE};
+use extents::Change;
 use store::State;
-use update::Overlay;
+use update::{Frames, Overlay};
 
 // Where a page ends in memory, if that is no more than a number.
 fn page_end(base: u64, page: u64) -> Option<u64>
@@ -45,11 +48,10 @@ fn required_end(base: u64, size: u64, numbers: &[u64]) -> Option<u64>
     ensures { result ≡ reach (required 16384 base (below (count 16384 size) numbers.now) (base + size)) }
 {
     let pages = config::page_count_for_size(size);
-    let mut end = base.checked_add(size)?;
-    for page in numbers.iter() {
-        end = further(end, base, *page, pages.0)?;
-    }
-    Some(end)
+    let end = base.checked_add(size)?;
+    numbers
+        .iter()
+        .try_fold(end, |end, page| further(end, base, *page, pages.0))
 }
 
 // Where a page starts in memory, or its length where that is less.
@@ -62,15 +64,16 @@ fn page_start(base: u64, page: u64, len: usize) -> usize
 }
 
 // "Then those pages are written in place": of these pages those below `count`.
-fn write_pages(mem: &mut [u8], base: u64, frames: &[u8], numbers: &[u64], count: u64)
-    requires { length numbers.now * 16384 ≤ length frames.now }
-    ensures { mem.new ≡ write_pages 16384 65536 8 1024 18446744073709551615 real_codec base count (pages_in 16384 numbers.now frames.now) mem.old }
+fn write_pages(mem: &mut [u8], base: u64, frames: Frames<'_>, count: u64)
+    requires { Whole frames.numbers.now frames.bytes.now }
+    ensures { mem.new
+        ≡ write_pages 16384 65536 8 1024 18446744073709551615 real_codec base count (pages_in 16384 frames.entry.numbers.now frames.entry.bytes.now) mem.old }
 {
-    for (i, page) in numbers.iter().enumerate() {
+    let pages = frames.bytes.chunks_exact(PAGE_LEN);
+    for (page, bytes) in frames.numbers.iter().zip(pages) {
         if *page < count {
-            let start = i * PAGE_LEN;
             let at = page_start(base, *page, mem.len());
-            memory::write(mem, at, &frames[start..start + PAGE_LEN]);
+            memory::write(mem, at, bytes);
         }
     }
 }
@@ -79,20 +82,20 @@ fn write_pages(mem: &mut [u8], base: u64, frames: &[u8], numbers: &[u64], count:
 fn publish(
     s: &mut State,
     mem: &mut [u8],
-    frames: &[u8],
-    numbers: &[u64],
+    frames: Frames<'_>,
     runs: &[u64],
     size: u64,
     update: bool,
     end: u64,
 ) -> Result<(), Refusal>
-    requires { (length numbers.now * 16384 ≤ length frames.now) × (numbers_of (runs_of runs.now) ≡ runs.now) }
-    ensures { outcome (left_by s.new (done result)) mem.new ≡ publish_to 16384 65536 8 1024 18446744073709551615 real_codec update s.old mem.old size (pages_in 16384 numbers.now frames.now)
+    requires { Whole frames.numbers.now frames.bytes.now × (numbers_of (runs_of runs.now) ≡ runs.now) }
+    ensures { outcome (left_by s.new (done result)) mem.new
+        ≡ publish_to 16384 65536 8 1024 18446744073709551615 real_codec update s.old mem.old size (pages_in 16384 frames.entry.numbers.now frames.entry.bytes.now)
         (runs_of runs.now) (grow_to 65536 s.old.count.0 end mem.old).mem (grow_to 65536 s.old.count.0 end mem.old).growth }
 {
     s.count = memory::grow(mem, s.count, end)?;
     let pages = config::page_count_for_size(size);
-    write_pages(mem, s.block.db_base_offset, frames, numbers, pages.0);
+    write_pages(mem, s.block.db_base_offset, frames, pages.0);
     let block = blocks::after_commit(s.block, update, size, (runs.len() / 2) as u64);
     s.block = block.store(runs, mem);
     Ok(())
@@ -102,53 +105,57 @@ fn publish(
 fn settle(
     s: &mut State,
     mem: &mut [u8],
-    frames: &[u8],
-    numbers: &[u64],
+    frames: Frames<'_>,
     record: &[u64],
     work: &mut [u64],
     size: u64,
     update: bool,
 ) -> Result<(), Refusal>
-    requires { (length numbers.now * 16384 ≤ length frames.now) × ((1025 + length numbers.now * 2) * 2 ≤ length work.old) }
-    ensures { outcome (left_by s.new (done result)) mem.new ≡ settle_to 16384 65536 8 1024 18446744073709551615 real_codec update s.old mem.old size (pages_in 16384 numbers.now frames.now)
-        (store_plan 16384 1024 s.old.block.db_size size (image_runs s.old.block.zero_extent_count mem.old) (runs_in (length «record».now / 2) «record».now) numbers.now) }
+    requires { Whole frames.numbers.now frames.bytes.now × (room (length frames.numbers.now) ≤ length work.old) }
+    ensures { outcome (left_by s.new (done result)) mem.new
+        ≡ settle_to 16384 65536 8 1024 18446744073709551615 real_codec update s.old mem.old size (pages_in 16384 frames.entry.numbers.now frames.entry.bytes.now)
+        (store_plan 16384 1024 s.old.block.db_size size (image_runs s.old.block.zero_extent_count mem.old) (runs_of «record».now) frames.entry.numbers.now) }
 {
     let block = s.block;
-    let runs = block.zero_extent_count as usize;
-    let count = extents::plan(work, mem, runs, block.db_size, size, record, numbers)?;
-    let end = required_end(block.db_base_offset, size, numbers).ok_or(Refusal::OffsetOverflow)?;
-    publish(
-        s,
-        mem,
-        frames,
-        numbers,
-        &work[..count * 2],
-        size,
-        update,
-        end,
-    )
+    let image = image_runs::stored(mem, block.zero_extent_count as usize);
+    let change = Change {
+        old_size: block.db_size,
+        new_size: size,
+        recorded: record,
+        dirty: frames.numbers,
+    };
+    let count = extents::plan(work, image, change)?;
+    let end = required_end(block.db_base_offset, size, frames.numbers).ok_or(
+        Refusal::OffsetOverflow,
+    )?;
+    publish(s, mem, frames, &work[..count * 2], size, update, end)
 }
 
 // An update's commit, or a direct call's, without the clearing of its slices: "An overlay without size change, dirty page or record commits as
 // accepted and stores no byte".
+// `update` is a parameter, though what `conclude`'s callers hand on is `s.updating`: the promise is for either value on any state, and may not shrink.
 pub fn commit(
     s: &mut State,
     mem: &mut [u8],
-    frames: &[u8],
-    numbers: &[u64],
+    frames: Frames<'_>,
     record: &[u64],
     work: &mut [u64],
     o: &Overlay,
     update: bool,
 ) -> Result<(), Refusal>
-    requires { (o.now.dirty ≤ length numbers.now) × (o.now.dirty * 16384 ≤ length frames.now) × (o.now.recorded * 2 ≤ length «record».now) × ((1025 + o.now.dirty * 2) * 2 ≤ length work.old) }
-    ensures { outcome (left_by s.new (done result)) mem.new ≡ commit_to 16384 65536 8 1024 18446744073709551615 real_codec update s.old mem.old o.now.base_size o.now.size (pages_in 16384 (take o.now.dirty numbers.now) frames.now)
+    requires { Held o.now frames.bytes.now frames.numbers.now «record».now work.old }
+    ensures { outcome (left_by s.new (done result)) mem.new
+        ≡ commit_to 16384 65536 8 1024 18446744073709551615 real_codec update s.old mem.old o.now.base_size o.now.size
+        (pages_in 16384 (take o.now.dirty frames.entry.numbers.now) frames.entry.bytes.now)
         (runs_in o.now.recorded «record».now) }
 {
     if o.is_empty() {
         return Ok(());
     }
-    let dirty = &numbers[..o.dirty];
+    let dirty = Frames {
+        numbers: &frames.numbers[..o.dirty],
+        ..frames
+    };
     let recorded = &record[..o.recorded * 2];
-    settle(s, mem, frames, dirty, recorded, work, o.size, update)
+    settle(s, mem, dirty, recorded, work, o.size, update)
 }

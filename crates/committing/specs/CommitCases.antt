@@ -31,6 +31,7 @@ use Rattle.store.specs.Calls.{Call, commit, rollback, uses, lent_bytes, Lent, Ou
 use Rattle.store.specs.Plan.{required}
 use Rattle.store.specs.Store.{ended, unchanged, planned_runs, publish, settle, commit_over, do_commit, do_rollback, act, swept, store}
 use Rattle.commit.specs.Committed.{Outcome, kept_as, publish_to, settle_to, commit_to}
+use Rattle.commit.specs.Held.{Held}
 use Rattle.transfer.specs.OnMemory.{lent}
 use Rattle.lending.specs.Lending.{calls}
 
@@ -124,7 +125,7 @@ module _ (s : State) (l : Lent) (t : Bool) (e : t ≡ short 16384 65536 8 1024 s
 
     -- what is lent holds the update, and the work list its plan
     pub commit_fits : s.updating ≡ true
-        → (s.overlay.dirty ≤ length l.bufs.numbers) × (s.overlay.dirty * 16384 ≤ length l.bufs.frames) × (s.overlay.recorded * 2 ≤ length l.bufs.recs) × ((1025 + s.overlay.dirty * 2) * 2 ≤ length l.work)
+        → Held s.overlay l.bufs.frames l.bufs.numbers l.bufs.recs l.work
     unfolding short settled
     commit_fits u =
         let parts = no_or _ _ (no_or (ltb (length l.mem) (s.count.0 * 65536)) _ (sym e ∙ h)).1 in

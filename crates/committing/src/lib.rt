@@ -2,7 +2,7 @@
 // The lent slices are parameters of their own, as `update::Stored` says.
 #![tactic(auto)]
 
-ghost use Rattle.std.specs.Prelude.{◌≡◌, true, [], ◌+◌, ◌*◌, ◌≤◌, length};
+ghost use Rattle.std.specs.Prelude.{◌≡◌, true, [], length};
 ghost use Rattle.memory.specs.Bytes.{zeros};
 ghost use Rattle.update.specs.Buffers.{view, wiped};
 ghost use Rattle.update.specs.Laid.{bufs};
@@ -10,12 +10,13 @@ ghost use Rattle.store.specs.Answers.{done};
 ghost use Rattle.store.specs.Codec.{real_codec};
 ghost use Rattle.store.specs.Calls.{commit, rollback, out};
 ghost use Rattle.store.specs.Store.{commit_over, swept};
+ghost use Rattle.commit.specs.Held.{Held};
 ghost use Rattle.transfer.specs.OnMemory.{lent};
 ghost use Rattle.lending.specs.Lending.{calls, OnBuffers};
 
 use config::Refusal;
 use store::State;
-use update::Overlay;
+use update::{Frames, Overlay};
 
 // "its frames, page numbers, clean frames and record, whole, become zeros"; so does the work list.
 pub fn clear(
@@ -32,7 +33,7 @@ pub fn clear(
     memory::fill(work, 0);
 }
 
-// The commit of an update, or of a direct call, whose overlay is `o`: then it is over, accepted or not.
+// The commit of an update, or of a direct call, whose overlay is `o`: then it is over, accepted or not. `update` is a parameter as in `commit::commit`.
 pub fn conclude(
     s: &mut State,
     mem: &mut [u8],
@@ -44,12 +45,17 @@ pub fn conclude(
     o: &Overlay,
     update: bool,
 ) -> Result<(), Refusal>
-    requires { (o.now.dirty ≤ length numbers.old) × (o.now.dirty * 16384 ≤ length frames.old) × (o.now.recorded * 2 ≤ length «record».old) × ((1025 + o.now.dirty * 2) * 2 ≤ length work.old) }
+    requires { Held o.now frames.old numbers.old «record».old work.old }
     ensures { out s.new (lent mem.new (bufs frames.new numbers.new clean.new «record».new) work.new) (done result) []
-        ≡ swept 16384 65536 8 1024 18446744073709551615 real_codec true (commit_over 16384 65536 8 1024 18446744073709551615 real_codec update s.old (lent mem.old (bufs frames.old numbers.old clean.old «record».old) work.old) o.now.base_size
+        ≡ swept 16384 65536 8 1024 18446744073709551615 real_codec true (commit_over 16384 65536 8 1024 18446744073709551615 real_codec update s.old
+        (lent mem.old (bufs frames.old numbers.old clean.old «record».old) work.old) o.now.base_size
         (view 16384 8 o.now (bufs frames.old numbers.old clean.old «record».old))) }
 {
-    let answer = commit::commit(s, mem, frames, numbers, record, work, o, update);
+    let pages = Frames {
+        bytes: frames,
+        numbers,
+    };
+    let answer = commit::commit(s, mem, pages, record, work, o, update);
     clear(frames, numbers, clean, record, work);
     *s = lending::ended(s.count, s.block);
     answer

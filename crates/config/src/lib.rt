@@ -15,6 +15,7 @@ pub const PAGE_LEN: usize = SQLITE_PAGE_SIZE as usize;
 
 pub const STABLE_PAGE_SIZE: u64 = 65_536;
 
+// 01, of config.rs: "superblock at offset 0". Nothing here reads it, as memory starts with the superblock: it stands for callers.
 pub const SUPERBLOCK_OFFSET: u64 = 0;
 
 pub const DB_REGION_OFFSET: u64 = 65_536;

@@ -1,8 +1,9 @@
 -- Laws of the readers: what they accept is spelled so, and what is spelled so they accept.
-use Rattle.std.specs.Prelude.{◌≡◌, refl, Bool, true, false, cond, List, [], ◌∷◌, ◌++◌, ℕ, zero, suc, ◌+◌, ◌-◌, ◌*◌, ◌/◌, ◌%◌, ◌≤◌, ◌<◌, drop, get_or, ltb, leb, eqb}
+use Rattle.std.specs.Prelude.{◌≡◌, refl, Bool, true, false, cond, List, [], ◌∷◌, ◌++◌, ℕ, zero, suc, ◌+◌, ◌-◌, ◌*◌, ◌/◌, ◌%◌, ◌≤◌, ◌<◌, take, drop, get_or, ltb, leb, eqb}
 use Rattle.std.proofs.Common.{sym, ap, ◌∙◌, true≢false, append_assoc, add-one, arith}
 use Rattle.std.proofs.Math.Bool.{and-eq-true_iff}
-use Rattle.std.proofs.Math.ListN.{length, length-append, get_or-append, drop_of_length-le}
+use Rattle.std.proofs.lemmas.List.{take_rest, get_or-drop}
+use Rattle.std.proofs.Math.ListN.{length, length-append, length-drop, get_or-append, drop_of_length-le}
 use Rattle.std.proofs.Math.Seq.{drop-cons, drop-drop, drop-append_seam}
 use borrow.Author.Tests.{ltb-true, ltb-false, leb-true, eqb-true, eqb-false, lt-ltb, le-ltb, le-leb, lt-leb, eq-eqb, ne_eqb}
 use Rattle.decimal.specs.Decimal.{decimal, ten, split, decimal_one, decimal_more}
@@ -162,6 +163,17 @@ unfolding number
 number_none = refl
 
 -- ## Turns of the loops
+
+-- the bytes of a text from a place on, as the code goes through them
+module _ (t : List ℕ) (at i : ℕ) where
+  pub byte_is : get_or (take (length t - at) (drop at t)) i 0 ≡ get_or t (at + i) 0
+  byte_is = ap (λ (l : List ℕ). get_or l i 0) (take_rest t at) ∙ get_or-drop at t i 0
+
+  pub byte_in : i < length (take (length t - at) (drop at t)) → at + i < length t
+  byte_in h = omega (arith, ap length (take_rest t at), length-drop at t)
+
+pub bytes_left : (t : List ℕ) (at : ℕ) → length (take (length t - at) (drop at t)) ≡ length t - at
+bytes_left t at = ap length (take_rest t at) ∙ length-drop at t
 
 module _ (t : List ℕ) (at : ℕ) (w : List ℕ) (i : ℕ) where
   pub skip_step : i < length w → is_at (get_or w i 0) (from t at) ≡ true → skip (drop (i + 1) w) (from t (at + 1)) ≡ skip (drop i w) (from t at)

@@ -5,6 +5,7 @@ use Rattle.std.proofs.lemmas.List.Edits.{sets, sets-eq}
 use Rattle.std.proofs.Math.Seq.{length-sets, drop-drop}
 use borrow.Rule.Slice.PartMut.{put_mid}
 use Rattle.decimal.specs.Decimal.{decimal, decimal_one, decimal_more}
+use Rattle.decimal.specs.declared.write.Writer.{Writer}
 
 pub record Written : Type 0 where
   pub next : ℕ
@@ -15,6 +16,10 @@ written n b = record { next = n; bytes = b }
 
 unfoldable pub write : ℕ → List ℕ → List ℕ → Written
 write at word out = written (at + length word) (sets out at word)
+
+-- a writer puts a word where it stood, into the buffer that it was lent
+abbrev pub Puts : Writer → Writer → List ℕ → Type 0
+Puts before after word = (after.out.ghost_name ≡ before.out.ghost_name) × (written after.at after.out.now ≡ write before.at word before.out.now)
 
 pub sets_append : (a b l : List ℕ) (i : ℕ) → sets (sets l i a) (i + length a) b ≡ sets l i (a ++ b)
 sets_append [] b l i = let e : i + 0 ≡ i = omega arith in ap (λ (k : ℕ). sets l k b) e
@@ -89,6 +94,10 @@ module _ (at : ℕ) (word out : List ℕ) (n : ℕ) (o : List ℕ) (e : written 
 
   pub bytes_stay : length o ≡ length out
   bytes_stay = ap (λ (w : Written). length w.bytes) e ∙ length-write at word out
+
+  -- both
+  pub moved : (n ≡ at + length word) × (length o ≡ length out)
+  moved = (next_is, bytes_stay)
 
   pub write_then : (m : ℕ) (p more : List ℕ) → written m p ≡ write n more o → written m p ≡ write at (word ++ more) out
   write_then m p more f = f ∙ ap (λ (w : Written). write w.next more w.bytes) e ∙ write_join at word more out

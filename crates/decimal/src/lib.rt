@@ -4,5 +4,5 @@
 mod read;
 mod write;
 
-pub use read::{Numeral, number, skip};
-pub use write::{put, put_number};
+pub use read::{Found, number, skip};
+pub use write::Writer;

@@ -1,16 +1,18 @@
 // A text is read as if a line feed stood behind its end, so that its last line may lack its own.
+// By a place, not by the rest from there: of an empty rest one could not say whether that line feed was read already. Text and place are
+// two parameters: the text stays, and only the place goes on, which `Found` answers; a struct of both would be made anew at each step.
 ghost use Rattle.std.specs.Prelude.{◌≡◌, ◌≤◌, length};
 
-// A number, and the place behind it.
+// A value that a text says, and the place behind it.
 #[derive(Clone, Copy, Debug, PartialEq, Eq)]
-pub struct Numeral {
-    pub value: u64,
+pub struct Found<T> {
+    pub value: T,
     pub next: usize,
 }
 
 ghost use Rattle.decimal.specs.Text.{from, is_at};
 ghost use Rattle.decimal.specs.Text.{skip as skipWord, digits as readDigits, number as read_number};
-ghost use Rattle.decimal.specs.Places.{place_in, numeral_in};
+ghost use Rattle.decimal.specs.Places.{place_in, found_in};
 
 const LINE_FEED: u8 = b'\n';
 
@@ -27,38 +29,36 @@ fn is_at(text: &[u8], at: usize, byte: u8) -> bool
 pub fn skip(text: &[u8], at: usize, word: &[u8]) -> Option<usize>
     ensures { place_in text.now result ≡ skipWord word.now (from text.now at) }
 {
-    let mut here = at;
-    for byte in word {
-        if !is_at(text, here, *byte) {
+    for (i, byte) in word.iter().enumerate() {
+        if !is_at(text, at + i, *byte) {
             return None;
         }
-        here += 1;
     }
-    Some(here)
+    Some(at + word.len())
 }
 
 // The number whose digits go on at `at`, where `first` is the value of those before; none is from 2^64 on.
-fn digits(text: &[u8], at: usize, first: u64) -> Option<Numeral>
+fn digits(text: &[u8], at: usize, first: u64) -> Option<Found<u64>>
     requires { at ≤ length text.now }
-    ensures { numeral_in text.now result ≡ readDigits first (from text.now at) }
+    ensures { found_in text.now result ≡ readDigits first (from text.now at) }
 {
     let mut value = first;
-    for next in at..text.len() {
-        let byte = text[next];
+    for (i, byte) in text[at..].iter().enumerate() {
         if !byte.is_ascii_digit() {
-            return Some(Numeral { value, next });
+            let next = at + i;
+            return Some(Found { value, next });
         }
-        let digit = u64::from(byte - b'0');
+        let digit = u64::from(*byte - b'0');
         let tens = value.checked_mul(10)?;
         value = tens.checked_add(digit)?;
     }
     let next = text.len();
-    Some(Numeral { value, next })
+    Some(Found { value, next })
 }
 
 // The number at a place, where there is one below 2^64.
-pub fn number(text: &[u8], at: usize) -> Option<Numeral>
-    ensures { numeral_in text.now result ≡ read_number (from text.now at) }
+pub fn number(text: &[u8], at: usize) -> Option<Found<u64>>
+    ensures { found_in text.now result ≡ read_number (from text.now at) }
 {
     let first = *text.get(at)?;
     if !first.is_ascii_digit() {
@@ -66,7 +66,7 @@ pub fn number(text: &[u8], at: usize) -> Option<Numeral>
     }
     let next = at + 1;
     if first == b'0' {
-        return Some(Numeral { value: 0, next });
+        return Some(Found { value: 0, next });
     }
     digits(text, next, u64::from(first - b'0'))
 }

@@ -1,35 +1,44 @@
 // Bytes put into a lent buffer, one piece behind the other.
-ghost use Rattle.std.specs.Prelude.{◌≡◌, [], ◌∷◌, ◌+◌, ◌≤◌, ◌<◌, length};
+ghost use Rattle.std.specs.Prelude.{[], ◌∷◌, ◌+◌, ◌≤◌, ◌<◌, length};
 ghost use Rattle.decimal.specs.Decimal.{decimal};
-ghost use Rattle.decimal.specs.Write.{written, write};
+ghost use Rattle.decimal.specs.Write.{Puts};
 
-// `word` from the place `at` on: the place behind it.
-pub fn put(out: &mut [u8], at: usize, word: &[u8]) -> usize
-    requires { at + length word.now ≤ length out.old }
-    ensures { written result out.new ≡ write at word.now out.old }
-{
-    let end = at + word.len();
-    out[at..end].copy_from_slice(word);
-    end
+// A lent buffer, and the place where the next piece goes.
+#[derive(Drop)]
+pub struct Writer<'a> {
+    pub out: &'a mut [u8],
+    pub at: usize,
 }
 
-fn put_digit(out: &mut [u8], at: usize, digit: u64) -> usize
-    requires { (at < length out.old) × (digit < 10) }
-    ensures { written result out.new ≡ write at ((48 + digit) ∷ []) out.old }
-{
-    out[at] = b'0' + digit as u8;
-    at + 1
-}
-
-// The digits of `n` from the place `at` on: the place behind them.
-// By hand, since `write!` into a slice promises its bytes only where it succeeds, and no clause of std says when it does.
-pub fn put_number(out: &mut [u8], at: usize, n: u64) -> usize
-    requires { at + length (decimal n) ≤ length out.old }
-    ensures { written result out.new ≡ write at (decimal n) out.old }
-{
-    if n < 10 {
-        return put_digit(out, at, n);
+impl<'a> Writer<'a> {
+    pub fn put(&mut self, word: &[u8])
+        requires { self.old.at + length word.now ≤ length self.old.out.now }
+        ensures { Puts self.old self.new word.now }
+    {
+        let end = self.at + word.len();
+        self.out[self.at..end].copy_from_slice(word);
+        self.at = end;
     }
-    let next = put_number(out, at, n / 10);
-    put_digit(out, next, n % 10)
+
+    fn put_digit(&mut self, digit: u64)
+        requires { (self.old.at < length self.old.out.now) × (digit < 10) }
+        ensures { Puts self.old self.new ((48 + digit) ∷ []) }
+    {
+        self.out[self.at] = b'0' + digit as u8;
+        self.at += 1;
+    }
+
+    // The digits of `n`.
+    // By hand, since `write!` into a slice promises its bytes only where it succeeds, and no clause of std says when it does.
+    pub fn put_number(&mut self, n: u64)
+        requires { self.old.at + length (decimal n) ≤ length self.old.out.now }
+        ensures { Puts self.old self.new (decimal n) }
+    {
+        if n < 10 {
+            self.put_digit(n);
+            return;
+        }
+        self.put_number(n / 10);
+        self.put_digit(n % 10);
+    }
 }

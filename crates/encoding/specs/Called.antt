@@ -214,7 +214,7 @@ module _ (st an : List ℕ) (s : State) (some : Some s ≡ state_given st an) (y
 -- ## Laws: what is told, by the number of the reply
 
 module _ (st an : List ℕ) (a : Answer) (r : Reply) (e : r ≡ reply_of a) where
-  is_number : r.number ≡ number_of a
+  pub is_number : r.number ≡ number_of a
   is_number = ap (λ (x : Reply). x.number) e
 
   pub answer_refused : r.number ≡ 35 → showing r.number st an ≡ answer_shown st an a
@@ -252,7 +252,7 @@ pick_number_lem true n st an an' = refl
 pick_number_lem false n st an an' = refl
 
 module _ (st an an' : List ℕ) (a : Answer) (n : ℕ) (told : Looked a an n an') (s : State) where
-  told_number : n ≡ number_of a
+  pub told_number : n ≡ number_of a
   unfolding answer_shown
   told_number = ap (λ (x : Shown). x.number) (told st) ∙ pick_number_lem (eqb (number_of a) 35) (number_of a) st an (overwrite 0 (values a) an)
 

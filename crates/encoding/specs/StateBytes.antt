@@ -81,7 +81,7 @@ state_in bs = state_of (words_in 42 bs)
 
 -- ## A state comes back from its bytes
 
-eight_of : (p : List ℕ) → length p ≡ 8 → eight p ≡ p
+pub eight_of : (p : List ℕ) → length p ≡ 8 → eight p ≡ p
 eight_of [] k = absurd (omega (arith, k))
 eight_of (a ∷ []) k = absurd (omega (arith, k))
 eight_of (a ∷ b ∷ []) k = absurd (omega (arith, k))

@@ -5,5 +5,5 @@ mod overlay_numbers;
 mod reply;
 mod state_bytes;
 
-pub use reply::{BUFFER_TOO_SHORT, Values, given, show, tell};
+pub use reply::{Values, given, number, show, tell};
 pub use state_bytes::{decode, encode};

@@ -5,36 +5,37 @@ ghost use Rattle.encoding.specs.StateBytes.{overlay_numbers, overlay_of};
 
 use update::{Budget, CleanCache, Overlay};
 
-pub const OVERLAY_NUMBERS: usize = 19;
+// Where the pages of the cache are among them, and where the budget is.
+const PAGES: usize = 5;
 
-// Not a `From`: neither an overlay nor an array is a type of this crate.
+const BUDGET: usize = PAGES + CleanCache::CAPACITY;
+
+pub const OVERLAY_NUMBERS: usize = BUDGET + 6;
+
+// Not a `From`, here and below: neither an overlay nor an array is a type of this crate.
 // Its cache has eight pages, as a caller learns here.
 pub fn numbers_of(o: Overlay) -> [u64; OVERLAY_NUMBERS]
     ensures { (result ≡ overlay_numbers o) × (length o.cache.pages ≡ 8) }
 {
-    let p = o.cache.pages;
     let b = o.budget;
-    [
+    let mut numbers = [0; OVERLAY_NUMBERS];
+    numbers[..PAGES].copy_from_slice(&[
         o.base_size,
         o.size,
         o.dirty as u64,
         o.recorded as u64,
         o.cache.count as u64,
-        p[0],
-        p[1],
-        p[2],
-        p[3],
-        p[4],
-        p[5],
-        p[6],
-        p[7],
+    ]);
+    numbers[PAGES..BUDGET].copy_from_slice(&o.cache.pages);
+    numbers[BUDGET..].copy_from_slice(&[
         u64::from(b.limited),
         b.max_pages,
         b.max_bytes,
         b.passed,
         b.peak_pages,
         b.peak_bytes,
-    ]
+    ]);
+    numbers
 }
 
 // A limit that is not 0 is one.
@@ -42,17 +43,19 @@ pub fn overlay_of(n: &[u64]) -> Overlay
     requires { 19 ≤ length n.now }
     ensures { result ≡ overlay_of n.now }
 {
+    let mut pages = [0; CleanCache::CAPACITY];
+    pages.copy_from_slice(&n[PAGES..BUDGET]);
     let cache = CleanCache {
-        pages: [n[5], n[6], n[7], n[8], n[9], n[10], n[11], n[12]],
+        pages,
         count: n[4] as usize,
     };
     let budget = Budget {
-        limited: n[13] != 0,
-        max_pages: n[14],
-        max_bytes: n[15],
-        passed: n[16],
-        peak_pages: n[17],
-        peak_bytes: n[18],
+        limited: n[BUDGET] != 0,
+        max_pages: n[BUDGET + 1],
+        max_bytes: n[BUDGET + 2],
+        passed: n[BUDGET + 3],
+        peak_pages: n[BUDGET + 4],
+        peak_bytes: n[BUDGET + 5],
     };
     Overlay {
         base_size: n[0],

@@ -1,6 +1,6 @@
 // What a call answered as a number and four values.
-ghost use Rattle.std.specs.Prelude.{◌≡◌, ◌≤◌, length, IfSome, refl};
-ghost use Rattle.store.specs.Answers.{Answer, answered, Done, Size, Read, Refreshed};
+ghost use Rattle.std.specs.Prelude.{◌≡◌, ◌≤◌, length, eqb, IfSome, refl};
+ghost use Rattle.store.specs.Answers.{Answer, answered, done, Done, Size, Read, Refreshed};
 ghost use Rattle.store.specs.Calls.{number};
 ghost use Rattle.encoding.specs.Called.{reply_of, state_given, showing, step_shown, Looked};
 ghost use Rattle.encoding.specs.Called.{values as valuesOf};
@@ -10,8 +10,6 @@ use config::{Numbers, Refusal};
 use store::{ChecksumRefresh, State};
 
 const ANSWER_NUMBERS: usize = 4;
-
-pub const BUFFER_TOO_SHORT: u64 = 35;
 
 // What a call answers where it is not refused.
 pub trait Values {
@@ -77,19 +75,21 @@ struct Reply {
     values: [u64; ANSWER_NUMBERS],
 }
 
-fn reply_of<T: Values>(given: Result<T, Refusal>) -> Reply
-    ensures { result ≡ reply_of (answered T.answer given) }
-{
-    match given {
-        Ok(value) => Reply {
-            number: 0,
-            values: value.values(),
-        },
-        Err(refusal) => {
-            let n = Numbers::from(refusal);
-            Reply {
-                number: n.number,
-                values: [n.first, n.second, 0, 0],
+impl<T: Values> From<Result<T, Refusal>> for Reply {
+    ghost from_gives = { λ given reply. reply ≡ reply_of (answered T.answer given) };
+
+    fn from(given: Result<T, Refusal>) -> Reply {
+        match given {
+            Ok(value) => Reply {
+                number: 0,
+                values: value.values(),
+            },
+            Err(refusal) => {
+                let n = Numbers::from(refusal);
+                Reply {
+                    number: n.number,
+                    values: [n.first, n.second, 0, 0],
+                }
             }
         }
     }
@@ -109,13 +109,28 @@ pub fn given(state: &[u8], answer: &[u64]) -> Option<State>
     Some(state_bytes::decode(state))
 }
 
-// The answer's values go to a caller, and its number is the result; 35 changes nothing.
+// The number of a call that shows no values.
+pub fn number(given: Result<(), Refusal>) -> u64
+    ensures { result ≡ number (done given) }
+{
+    Reply::from(given).number
+}
+
+// Whether what the call was lent is too short, so that it changes nothing.
+fn is_short<T: Values>(given: &Result<T, Refusal>) -> bool
+    ensures { result ≡ eqb (number (answered T.answer given.now)) 35 }
+{
+    matches!(given, Err(Refusal::BufferTooShort))
+}
+
+// The answer's values go to a caller, and its number is the result; where the call was lent too little, nothing changes.
 pub fn tell<T: Values>(given: Result<T, Refusal>, answer: &mut [u64]) -> u64
     requires { 4 ≤ length answer.old }
     ensures { Looked (answered T.answer given) answer.old result answer.new }
 {
-    let reply = reply_of(given);
-    if reply.number != BUFFER_TOO_SHORT {
+    let short = is_short(&given);
+    let reply = Reply::from(given);
+    if !short {
         memory::write(answer, 0, &reply.values);
     }
     reply.number
@@ -131,9 +146,8 @@ pub fn show<T: Values>(
     requires { (length state.old ≡ 336) × (4 ≤ length answer.old) }
     ensures { showing result state.new answer.new ≡ step_shown state.old answer.old s.now (answered T.answer given) }
 {
-    let number = tell(given, answer);
-    if number != BUFFER_TOO_SHORT {
+    if !is_short(&given) {
         state_bytes::encode(*s, state);
     }
-    number
+    tell(given, answer)
 }

@@ -10,12 +10,19 @@ use config::StablePages;
 use meta::Superblock;
 use store::State;
 
-const STATE_NUMBERS: usize = 42;
+// Where the parts are among the numbers.
+const BLOCK: usize = 1;
+
+const UPDATING: usize = BLOCK + Superblock::NUMBERS;
+
+const OVERLAY: usize = UPDATING + 1;
+
+const STATE_NUMBERS: usize = OVERLAY + overlay_numbers::OVERLAY_NUMBERS;
 
 pub const STATE_BYTES: usize = STATE_NUMBERS * 8;
 
 // Any bytes are a state; a mark of an open update that is not 0 is one.
-// Not a `From`: neither a state nor its bytes are a type of this crate.
+// Not a `From`, here and below: neither a state nor its bytes are a type of this crate.
 pub fn decode(state: &[u8]) -> State
     requires { 336 ≤ length state.now }
     ensures { result ≡ state_in state.now }
@@ -23,18 +30,18 @@ pub fn decode(state: &[u8]) -> State
     let n: [u64; STATE_NUMBERS] = words::read_words(state, 0);
     State {
         count: StablePages(n[0]),
-        block: Superblock::of_numbers(&n[1..]),
-        updating: n[22] != 0,
-        overlay: overlay_numbers::overlay_of(&n[23..]),
+        block: Superblock::of_numbers(&n[BLOCK..]),
+        updating: n[UPDATING] != 0,
+        overlay: overlay_numbers::overlay_of(&n[OVERLAY..]),
     }
 }
 
-// The numbers of a slice are numbers of 64 bits, as a caller learns here.
+// The numbers from place `at` on become these, which are numbers of 64 bits, as a caller learns here.
 fn put(bytes: &mut [u8], at: usize, numbers: &[u64])
-    requires { at + length numbers.now * 8 ≤ length bytes.old }
-    ensures { (bytes.new ≡ overwrite at (words numbers.now) bytes.old) × Wide numbers.now }
+    requires { (at + length numbers.now) * 8 ≤ length bytes.old }
+    ensures { (bytes.new ≡ overwrite (at * 8) (words numbers.now) bytes.old) × Wide numbers.now }
 {
-    words::write_words(bytes, at, numbers);
+    words::write_words(bytes, at * 8, numbers);
 }
 
 pub fn encode(s: State, state: &mut [u8])
@@ -42,7 +49,7 @@ pub fn encode(s: State, state: &mut [u8])
     ensures { (state.new ≡ state_bytes s) × (state_in state.new ≡ s) }
 {
     put(state, 0, &[s.count.0]);
-    put(state, 8, &s.block.numbers());
-    put(state, 176, &[u64::from(s.updating)]);
-    put(state, 184, &overlay_numbers::numbers_of(s.overlay));
+    put(state, BLOCK, &s.block.numbers());
+    put(state, UPDATING, &[u64::from(s.updating)]);
+    put(state, OVERLAY, &overlay_numbers::numbers_of(s.overlay));
 }

@@ -22,9 +22,12 @@ unfoldable pub planned : ℕ → Answer → Outcome
 planned n too_many = outcome (Err ZeroExtentLimitExceeded) (padded n [])
 planned n (kept l) = outcome (Ok (length l)) (padded n (numbers_of l))
 
--- what the plan on a list of numbers is lent: at most 1,024 normalized runs in front, and room for d dirty pages.
--- 01: "the work list under 1,025 + 2 × frames runs" is 35, which the callers test
+-- the numbers of a work list with room for n dirty pages: 35 is "the work list under 1,025 + 2 × frames runs", of two numbers each
+abbrev pub room : ℕ → ℕ
+room n = (1025 + n * 2) * 2
+
+-- what the plan on a list of numbers is lent: at most 1,024 normalized runs in front, and room for d dirty pages, which the callers test
 pub record Lent (n d : ℕ) (w : List ℕ) : Type 0 where
   pub few : n ≤ 1024
-  pub room : (1025 + d * 2) * 2 ≤ length w
+  pub room : room d ≤ length w
   pub tidy : normalized (runs_in n w) ≡ true

@@ -1,5 +1,6 @@
 -- The hash over a list part by part.
-use Rattle.std.specs.Prelude.{◌≡◌, ℕ, ◌+◌, ◌-◌, ◌*◌, ◌<◌, ◌≤◌, List, [], ◌∷◌, ◌++◌, length, take, drop, slice_index, zero, suc, get_or}
+use Rattle.std.specs.Prelude.{◌≡◌, ℕ, ◌+◌, ◌-◌, ◌*◌, ◌<◌, ◌≤◌, List, [], ◌∷◌, ◌++◌, length, take, drop, slice_index, zero, suc, get_or, refl}
+use Rattle.std.specs.List.{fold as folded}
 use Rattle.std.specs.Simd.{first_chunks}
 use Rattle.std.proofs.Common.{zero-mul, suc-mul, sym, ap, ◌∙◌, add-one, arith, length-drop, take-add, take-suc, take_all, drop-drop, get_or-drop}
 use Rattle.fnv.specs.Fnv.{step, fold, fold_join, fold_cons, fold_nil}
@@ -32,3 +33,16 @@ module _ (h : ℕ) (l : List ℕ) where
 
 pub fold_both : (h : ℕ) (l : List ℕ) (at a b : ℕ) → fold (fold h (take a (drop at l))) (take b (drop (at + a) l)) ≡ fold h (take (a + b) (drop at l))
 fold_both h l at a b = ap (λ (x : List ℕ). fold (fold h (take a (drop at l))) (take b x)) (sym (drop-drop a at l)) ∙ fold_on h (drop at l) a b
+
+-- one octet after another
+pub each_folded : (h : ℕ) (l : List ℕ) → folded step h l ≡ fold h l
+unfolding fold
+each_folded h [] = refl
+each_folded h (b ∷ bs) = each_folded (step h b) bs
+
+-- one chunk of n octets after another
+pub chunks_folded : (n k h : ℕ) (l : List ℕ) → folded fold h (first_chunks n k l) ≡ fold h (take (k * n) l)
+chunks_folded n zero h l = rw zero-mul (sym (fold_nil h))
+chunks_folded n (suc k) h l =
+    let e : n + k * n ≡ suc k * n = omega (arith, suc-mul k n) in
+    chunks_folded n k (fold h (take n l)) (drop n l) ∙ fold_on h l n (k * n) ∙ ap (λ (m : ℕ). fold h (take m l)) e

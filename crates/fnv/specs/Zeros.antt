@@ -3,6 +3,8 @@ use Rattle.std.specs.Prelude.{◌≡◌, ℕ, zero, suc, ◌+◌, ◌*◌, ◌%�
 use Rattle.std.proofs.Common.{sym, ap, ◌∙◌, mul_assoc, mul_comm, pow-suc, zero-add, suc-add, arith, ne_eqb}
 use Rattle.std.proofs.Math.Nat.{pow-zero, two-pow-succ}
 use Rattle.std.proofs.lemmas.Bool.{false≢true}
+use Rattle.std.specs.List.{fold as folded}
+use Rattle.std.proofs.Math.Bool.{and-true, and-false}
 use Rattle.std.specs.Int.Bits.{xor_zero_r}
 use Rattle.fnv.specs.Fnv.{prime, step, fold, mixed_is}
 use Rattle.fnv.specs.Parts.{take_next}
@@ -109,6 +111,12 @@ pub zeros_more : (l : List ℕ) (k : ℕ) → k < length l → (all_zeros (take 
 zeros_more l k lt =
     let next : take (k + 1) l ≡ take k l ++ (slice_index l k ∷ []) = rw zero-add at (take_next l 0 k (omega arith)) in
     sym (zeros_join (take k l) (slice_index l k)) ∙ ap all_zeros (sym next)
+
+-- one after another
+pub zeros_folded : (all : Bool) (l : List ℕ) → folded (λ b x. b && x == 0) all l ≡ (all && all_zeros l)
+zeros_folded all [] = sym (and-true all)
+zeros_folded all (zero ∷ xs) = zeros_folded (all && true) xs ∙ rw and-true
+zeros_folded all (suc x ∷ xs) = zeros_folded (all && suc x == 0) xs ∙ rw (positive x, and-false)
 
 zeros_are : (l : List ℕ) → all_zeros l ≡ true → l ≡ replicate (length l) 0
 zeros_are [] z = refl

@@ -26,22 +26,14 @@ fn step(hash: u64, byte: u8) -> u64
 fn fold_each(hash: u64, bytes: &[u8]) -> u64
     ensures { result ≡ fold hash bytes.now }
 {
-    let mut out = hash;
-    for byte in bytes {
-        out = step(out, *byte);
-    }
-    out
+    bytes.iter().fold(hash, |out, byte| step(out, *byte))
 }
 
-// Whether all of the bytes are zeros. A loop: of the iterator's `all` no proof was found.
+// Whether all of the bytes are zeros. The fold has no way out: the compiler joins them, and tests once.
 fn are_zeros(bytes: &[u8]) -> bool
     ensures { result ≡ all_zeros bytes.now }
 {
-    let mut all = true;
-    for byte in bytes {
-        all &= *byte == 0;
-    }
-    all
+    bytes.iter().fold(true, |all, byte| all & (*byte == 0))
 }
 
 // Over eight bytes. A number below 2^24, as those of runs mostly are, ends in five zeros.
@@ -61,10 +53,7 @@ pub fn fold_fnv1a64(hash: u64, bytes: &[u8]) -> u64
     ensures { result ≡ fold hash bytes.now }
 {
     let (eights, rest) = bytes.as_chunks::<8>();
-    let mut sum = hash;
-    for eight in eights {
-        sum = fold_eight(sum, eight);
-    }
+    let sum = eights.iter().fold(hash, fold_eight);
     fold_each(sum, rest)
 }
 

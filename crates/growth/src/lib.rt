@@ -6,6 +6,7 @@ ghost use Rattle.std.specs.Prelude.{◌≡◌, ◌<◌};
 ghost use Rattle.update.specs.Laid.{bufs, laid, Fits, patched, finished, grown};
 
 use config::{Refusal, SQLITE_PAGE_SIZE};
+use meta::ZeroExtent;
 use update::{Overlay, Stored};
 
 // A partial old last page is made dirty, and becomes zeros from the old size to its end, or to the new size before it.
@@ -82,7 +83,11 @@ pub fn grow(
     let old = o.size;
     let first = config::page_count_for_size(old);
     let last = config::page_count_for_size(new);
-    o.recorded = pool::push_run(record, o.recorded, first.0, last.0)?;
+    let added = ZeroExtent {
+        start: first.0,
+        end: last.0,
+    };
+    o.recorded = pool::push_run(record, o.recorded, added)?;
     o.size = new;
     zero_old_end(o, stored, frames, numbers, clean, record, old, new)?;
     zero_new_end(o, stored, frames, numbers, clean, record, old, new)

@@ -8,9 +8,11 @@ use Rattle.memory.specs.Laws.{length-zeros, zeros_at, length-overwrite, overwrit
 use Rattle.fnv.specs.Fnv.{fold, fold_join, fold_nil}
 use Rattle.fnv.specs.Zeros.{fold_zeros, fold_zeros-is}
 use Rattle.meta.specs.Runs.{numbers_of}
-use Rattle.words.specs.Words.{word_at, word_at-drop, words_in_at}
+use Rattle.meta.specs.Runs.{runs_in as stored}
+use Rattle.words.specs.Words.{word_at, word_at-drop, words_in, words_in_at, length-words_in}
 use Rattle.runs.specs.FlatLaws.{numbers_runs}
-use Rattle.image_runs.specs.Image.{image_count, image_numbers, image_runs, length-image}
+use Rattle.runs.specs.Lists.{length-runs_of, length-stored}
+use Rattle.image_runs.specs.Image.{image_count, image_numbers, image_runs, length-image, words_runs}
 use Rattle.update.specs.declared.Image.{Image}
 use Rattle.update.specs.Lists.{tabulate_from}
 use Rattle.update.specs.ListLaws.{tabulate_from-at, length-tabulate_from}
@@ -138,3 +140,15 @@ numbers_all count n mem w e h =
 
 pub numbers_image : (count : ℕ) (mem : List ℕ) → numbers_of (image_runs count mem) ≡ image_numbers count mem
 numbers_image count mem = numbers_runs (image_numbers count mem) (image_count count mem) (length-image count mem)
+
+-- the image's runs in bytes b: as many of them, and the same numbers
+module _ (count : ℕ) (mem b : List ℕ) (e : stored (length b / 16) b ≡ image_runs count mem) where
+  pub stored_count : length (stored (length b / 16) b) ≡ image_count count mem
+  stored_count = ap length e ∙ length-runs_of (image_numbers count mem) ∙ omega (arith, length-image count mem)
+
+  pub stored_numbers : (k : ℕ) → k ≡ image_count count mem * 2 → words_in k b ≡ image_numbers count mem
+  stored_numbers k h =
+      let n : ℕ = length b / 16 in
+      let m : k ≡ n * 2 = omega (arith, stored_count, length-stored n b) in
+      ap (λ (x : ℕ). words_in x b) m ∙ sym (numbers_runs (words_in (n * 2) b) n (length-words_in (n * 2) b))
+      ∙ ap numbers_of (words_runs n b ∙ e) ∙ numbers_image count mem

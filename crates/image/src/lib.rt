@@ -1,7 +1,7 @@
 // The image in the lent memory: its bytes, its checksum, and its superblock stored anew.
 #![tactic(auto)]
 
-ghost use Rattle.std.specs.Prelude.{◌≡◌, ◌+◌, ◌-◌, ◌*◌, ◌≤◌, min, length, take};
+ghost use Rattle.std.specs.Prelude.{◌≡◌, ◌+◌, ◌-◌, ◌*◌, ◌≤◌, length, take};
 ghost use Rattle.memory.specs.Bytes.{zeros};
 ghost use Rattle.fnv.specs.Fnv.{fold as folded};
 ghost use Rattle.meta.specs.Stored.{outcome};
@@ -13,6 +13,8 @@ ghost use Rattle.image.specs.Reading.{image_of, resealed, restored};
 
 use config::PAGE_LEN;
 use meta::Superblock;
+use pool::Parts;
+use runs::RunList;
 use update::{Image, Stored};
 
 // Not a `From`: neither type is this crate's.
@@ -31,14 +33,12 @@ fn read_pages(dst: &mut [u8], stored: Stored<'_>, offset: u64)
     requires { offset + length dst.old ≤ 18446744073709551615 }
     ensures { dst.new ≡ tabulate_from offset (length dst.old) (image_in 16384 stored.entry.image stored.entry.mem.now) }
 {
+    let end = offset + (dst.len() as u64);
+    // Counted beside `at`: with `at - offset` in its place a read of 100 bytes takes 18.7 ns and not 17.2.
     let mut done = 0;
-    // No iterator of the library cuts a slice at the ends of pages: the first part may be shorter than a page.
-    while done < dst.len() {
-        let absolute = offset + (done as u64);
-        let within = config::page_offset(absolute);
-        let end = done + (PAGE_LEN - within).min(dst.len() - done);
-        pool::read_image(&mut dst[done..end], stored, absolute);
-        done = end;
+    for (at, n) in (Parts { at: offset, end }) {
+        pool::read_image(&mut dst[done..done + n], stored, at);
+        done += n;
     }
 }
 
@@ -46,8 +46,7 @@ fn read_pages(dst: &mut [u8], stored: Stored<'_>, offset: u64)
 pub fn read(dst: &mut [u8], stored: Stored<'_>, offset: u64)
     ensures { dst.new ≡ tabulate_from offset (length dst.old) (image_in 16384 stored.entry.image stored.entry.mem.now) }
 {
-    let left = stored.image.size.saturating_sub(offset);
-    let n = left.min(dst.len() as u64) as usize;
+    let n = pool::below_size(dst.len(), stored.image.size, offset);
     read_pages(&mut dst[..n], stored, offset);
     memory::fill(&mut dst[n..], 0);
 }
@@ -95,41 +94,11 @@ pub fn fold(hash: u64, stored: Stored<'_>, from: u64, end: u64) -> u64
     ensures { result ≡ folded hash (tabulate_from from (end - from) (image_in 16384 stored.entry.image stored.entry.mem.now)) }
 {
     let mut sum = hash;
-    let mut at = from;
     let mut page = [0u8; 16_384];
-    // The parts end where pages end, as above.
-    while at < end {
-        let within = config::page_offset(at);
-        let n = part(PAGE_LEN - within, end - at);
+    for (at, n) in (Parts { at: from, end }) {
         sum = fold_part(sum, &mut page[..n], stored, at);
-        at += n as u64;
     }
     sum
-}
-
-// `most`, or what is left of it.
-fn part(most: usize, left: u64) -> usize
-    ensures { result ≡ min most left }
-{
-    left.min(most as u64) as usize
-}
-
-// How many runs the image has in memory.
-fn count_runs(mem: &[u8], count: usize) -> usize
-    ensures { result ≡ image_count count mem.now }
-{
-    let room = mem.len().saturating_sub(Superblock::EXTENTS_OFFSET) / 16;
-    count.min(Superblock::MAX_ZERO_EXTENTS as usize).min(room)
-}
-
-// Their numbers, as they stand in its bytes, become all of `out`.
-fn read_runs(out: &mut [u64], mem: &[u8], count: usize)
-    requires { length out.old ≡ image_count count mem.now * 2 }
-    ensures { out.new ≡ image_numbers count mem.now }
-{
-    for (i, number) in out.iter_mut().enumerate() {
-        *number = meta::read_word(mem, Superblock::EXTENTS_OFFSET + i * 8);
-    }
 }
 
 // The numbers of the image's runs in front of `out`: how many there are.
@@ -137,8 +106,9 @@ fn copy_runs(out: &mut [u64], mem: &[u8], count: usize) -> usize
     requires { 2048 ≤ length out.old }
     ensures { (result ≡ image_count count mem.now * 2) × (take result out.new ≡ image_numbers count mem.now) }
 {
-    let n = count_runs(mem, count) * 2;
-    read_runs(&mut out[..n], mem, count);
+    let stored = image_runs::stored(mem, count);
+    let n = stored.count() * 2;
+    words::read_into(&mut out[..n], stored.bytes, 0);
     n
 }
 

@@ -1,4 +1,5 @@
 // Imports.
+// State and memory are two parameters, as `transfer` says.
 #![tactic(auto)]
 
 ghost use Rattle.std.specs.Prelude.{◌≡◌, ◌+◌, ◌≤◌, [], length, take, drop};
@@ -6,7 +7,7 @@ ghost use Rattle.fnv.specs.Fnv.{fnv1a64};
 ghost use Rattle.store.specs.Answers.{done};
 ghost use Rattle.store.specs.Calls.{import_begin, import_chunk, import_finish, import_cancel};
 ghost use Rattle.transfer.specs.OnMemory.{OnMemory};
-ghost use Rattle.transfer.specs.Steps.{step, step_out, import_admission, chunk_reach, chunk_to};
+ghost use Rattle.transfer.specs.Steps.{step, step_out, import_admission, chunk_to};
 
 use config::Refusal;
 use store::State;
@@ -22,7 +23,7 @@ pub fn begin_import(s: &mut State, mem: &mut [u8], total: u64, expected: u64) ->
         return Err(Refusal::ImportAlreadyStarted);
     }
     let base = memory::capacity(s.count);
-    if u64::MAX - base < total {
+    if base.checked_add(total).is_none() {
         return Err(Refusal::OffsetOverflow);
     }
     let begun = blocks::after_import_begin(block, total, expected, base);
@@ -41,15 +42,7 @@ fn admit(s: &State, mem: &[u8]) -> Result<(), Refusal>
     Ok(())
 }
 
-// The end in memory that a chunk needs: none if it is empty.
-fn chunk_reach(base: u64, end: u64, n: usize) -> u64
-    requires { base + end ≤ 18446744073709551615 }
-    ensures { result ≡ chunk_reach base end n }
-{
-    if n == 0 { 0 } else { base + end }
-}
-
-// The chunk goes to its place, once memory grew.
+// The chunk goes to its place, once memory grew; an empty one needs no memory.
 fn place_chunk(s: &mut State, mem: &mut [u8], offset: u64, bytes: &[u8]) -> Result<(), Refusal>
     requires { s.old.block.import_base_offset + (offset + length bytes.now) ≤ 18446744073709551615 }
     ensures { step_out (step s.new (done result)) mem.new ≡ chunk_to s.old mem.old offset bytes.now }
@@ -57,7 +50,9 @@ fn place_chunk(s: &mut State, mem: &mut [u8], offset: u64, bytes: &[u8]) -> Resu
     let block = s.block;
     let base = block.import_base_offset;
     let end = offset + bytes.len() as u64;
-    s.count = memory::grow(mem, s.count, chunk_reach(base, end, bytes.len()))?;
+    if !bytes.is_empty() {
+        s.count = memory::grow(mem, s.count, base + end)?;
+    }
     memory::write(mem, (base + offset) as usize, bytes);
     step::restore(s, mem, blocks::after_import_chunk(block, end));
     Ok(())
@@ -73,13 +68,11 @@ pub fn import_chunk(s: &mut State, mem: &mut [u8], offset: u64, bytes: &[u8]) ->
         return Err(Refusal::ImportOutOfOrder);
     }
     let n = bytes.len() as u64;
-    if u64::MAX - offset < n {
-        return Err(Refusal::OffsetOverflow);
-    }
-    if block.import_total_size < offset + n {
+    let end = offset.checked_add(n).ok_or(Refusal::OffsetOverflow)?;
+    if block.import_total_size < end {
         return Err(Refusal::ImportOutOfBounds);
     }
-    if u64::MAX - block.import_base_offset < offset + n {
+    if block.import_base_offset.checked_add(end).is_none() {
         return Err(Refusal::OffsetOverflow);
     }
     place_chunk(s, mem, offset, bytes)

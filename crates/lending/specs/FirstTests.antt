@@ -3,6 +3,7 @@ use Rattle.std.specs.Prelude.{◌≡◌, ℕ, ◌+◌, ◌*◌, ◌/◌, ◌≤�
 use Rattle.std.proofs.Math.Path.{refl, sym, ap}
 use Rattle.std.proofs.Common.{◌∙◌, arith, lt-ltb, le-ltb, ltb-true, ltb-false}
 use Rattle.std.proofs.Math.Dec.{ltb}
+use Rattle.extents.specs.Outcome.{room}
 use Rattle.update.specs.Buffers.{Buffers, frame_count, short_buffers}
 use Rattle.store.specs.declared.State.{State}
 use Rattle.store.specs.Calls.{commit, mode_if, mode_of, buffers_short, short}
@@ -45,3 +46,12 @@ module _ (s : State) (m : List ℕ) (b : Buffers) (w : List ℕ) where
         any_is ∙ neither _ _ (le-ltb _ _ h) ∙ neither _ _ g
         ∙ ap (λ (x : ℕ). ltb (length w) ((1025 + 2 * x) * 2)) (sym e)
         ∙ sym (half (length w) (1025 + 2 * n) (ltb (length w / 2) (1025 + 2 * n)) refl)
+
+    -- the same by the numbers of a work list for n frames
+    pub any_room : buffers_short 16384 65536 8 1024 (mode_of s) b ≡ false → (n : ℕ) → n ≡ min (length b.frames / 16384) (length b.numbers)
+        → short 16384 65536 8 1024 s (lent m b w) commit ≡ ltb (length w) (room n)
+    unfolding frame_count
+    any_room g n e =
+        any_is ∙ neither _ _ (le-ltb _ _ h) ∙ neither _ _ g
+        ∙ ap (λ (x : ℕ). ltb (length w) ((1025 + 2 * x) * 2)) (sym e)
+        ∙ ap (ltb (length w)) {x = (1025 + 2 * n) * 2} {y = room n} (omega arith)

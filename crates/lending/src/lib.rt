@@ -1,5 +1,5 @@
 // What a call tests first of what it is lent, and the state that an update leaves when it ends.
-// The lent slices are parameters of their own, as `update::Stored` says.
+// The lent slices are parameters of their own, as `update::Stored` and `buffers::are_short` say.
 #![tactic(auto)]
 
 ghost use Rattle.std.specs.Prelude.{◌≡◌};
@@ -12,12 +12,9 @@ ghost use Rattle.transfer.specs.OnMemory.{lent};
 use config::{PAGE_LEN, StablePages};
 use meta::Superblock;
 use store::State;
-use update::{Budget, Overlay};
+use update::{Budget, CleanCache, Overlay};
 
-// The runs of a work list for no frame: one more than an image can have.
-pub const WORK_RUNS: usize = Superblock::MAX_ZERO_EXTENTS as usize + 1;
-
-// A budget of which nothing is used yet.
+// A budget of which nothing is used yet. No `Budget::new`: its definition is the call's, in `store`, which stands above `update`.
 pub fn budget_of(limited: bool, max_pages: u64, max_bytes: u64) -> Budget
     ensures { result ≡ budget_of limited max_pages max_bytes }
 {
@@ -50,7 +47,7 @@ pub fn are_short(s: &State, frames: &[u8], numbers: &[u64], clean: &[u8], record
     if s.updating {
         return overlay::are_short(s.overlay, frames, numbers, clean, record);
     }
-    clean.len() < 8 * PAGE_LEN
+    clean.len() < CleanCache::CAPACITY * PAGE_LEN
 }
 
 // 35 for all that a call can be lent.
@@ -67,5 +64,5 @@ pub fn any_is_short(
 {
     !memory::is_lent(mem, s.count)
         || are_short(s, frames, numbers, clean, record)
-        || work.len() / 2 < WORK_RUNS + 2 * touch::frame_count(frames, numbers)
+        || work.len() < extents::work_numbers(touch::frame_count(frames, numbers))
 }

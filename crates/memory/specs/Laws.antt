@@ -235,6 +235,12 @@ overwrite_padded new xs h =
     (λ lo. get_or-append new z 0 i lo ∙ sym (resize_in (length xs) new i l))
     (λ hi. append_at new z i hi ∙ zeros_at _ _ ∙ sym (resize_in (length xs) new i l ∙ get_or-eq_default new 0 hi)))
 
+-- a list over the front, and zeros behind it up to the end or past it
+pub overwrite_rest : (new xs : List ℕ) (n : ℕ) → length xs ≤ n → overwrite (length new) (zeros n) (overwrite 0 new xs) ≡ resize (length xs) new
+overwrite_rest new xs n h = below (length new) (length xs)
+    (λ lo. sym (overwrite_few (length new) (length xs - length new) n (overwrite 0 new xs) (omega (arith, length-overwrite 0 new xs))) ∙ overwrite_padded new xs (omega arith))
+    (λ hi. overwrite_out (length new) (zeros n) (overwrite 0 new xs) (omega (arith, length-overwrite 0 new xs)) ∙ overwrite_long new xs hi)
+
 -- a part that was lent to be overwritten
 pub part_write : (at : ℕ) (new xs : List ℕ) → at ≤ length xs
     → put_mid at (length xs - at) xs (overwrite 0 new (take (length xs - at) (drop at xs))) ≡ overwrite at new xs

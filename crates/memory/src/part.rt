@@ -2,16 +2,14 @@
 ghost use Rattle.std.specs.Prelude.{◌≡◌, length, drop};
 ghost use Rattle.memory.specs.Bytes.{zeros, filled, overwrite, resize};
 
-// All of `dst` becomes `value`.
+// All of `dst` becomes `value`. By std's `fill` each element but the last becomes a clone, which of a type that is `Copy` need not be the value.
 pub fn fill<T: Copy>(dst: &mut [T], value: T)
     ensures { dst.new ≡ filled value (length dst.old) }
 {
-    for x in dst.iter_mut() {
-        *x = value;
-    }
+    dst.fill_with(|| value);
 }
 
-// The `n` bytes from `at` on become zeros.
+// The `n` bytes from `at` on become zeros. It is public, though `read` below alone calls it: what the crate promises may not shrink.
 pub fn fill_at(dst: &mut [u8], at: usize, n: usize)
     ensures { dst.new ≡ overwrite at (zeros n) dst.old }
 {
@@ -33,8 +31,8 @@ pub fn write<T: Copy>(dst: &mut [T], at: usize, src: &[T])
     dst[at..at + n].copy_from_slice(&src[..n]);
 }
 
-// What moves at once. A C library may move longer parts by one instruction, which on some processors takes ten times as long where the target lies a few bytes
-// behind the source modulo 4,096 (docs/BENCHMARKS.md).
+// What moves at once. From 2,112 bytes on glibc may move by one instruction: a page took 4.9 µs so where the target lies 4 bytes behind the source modulo 4,096,
+// and 437 ns by parts of 512 (docs/BENCHMARKS.md).
 const PART: usize = 512;
 
 // All of `src` over the first bytes of `dst`, part by part.
@@ -43,7 +41,8 @@ pub fn copy(dst: &mut [u8], src: &[u8])
 {
     let n = src.len().min(dst.len());
     let mut done = 0;
-    // No `for`: of what `chunks_mut` lends a proof knows the length alone.
+    // No `for`: of what `chunks_mut` lends a proof knows the length alone, and by `step_by`, which was proved, a copy of 100 bytes took 12.4 ns and not 9.8, one of
+    // a page 501 and not 444.
     while done < n {
         let end = done + PART.min(n - done);
         write(&mut dst[done..end], 0, &src[done..end]);
@@ -57,8 +56,5 @@ pub fn read(dst: &mut [u8], src: &[u8], at: usize)
 {
     let from = at.min(src.len());
     copy(dst, &src[from..]);
-    let have = src.len() - from;
-    if have < dst.len() {
-        fill(&mut dst[have..], 0);
-    }
+    fill_at(dst, src.len() - from, dst.len());
 }

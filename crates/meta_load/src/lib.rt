@@ -1,7 +1,7 @@
 // The tests of a superblock's bytes at opening.
 #![tactic(auto)]
 
-ghost use Rattle.std.specs.Prelude.{◌≡◌, ◌/◌, ◌≤◌, length, take};
+ghost use Rattle.std.specs.Prelude.{◌≡◌, ◌/◌, ◌≤◌, length};
 ghost use Rattle.memory.specs.Bytes.{zeros, overwrite};
 ghost use Rattle.fnv.specs.Fnv.{fnv1a64 as hashed};
 ghost use Rattle.meta.specs.Block.{checksum_offset};
@@ -21,16 +21,16 @@ pub fn normalized(bytes: &[u8]) -> bool
     runs::is_normalized(Stored { bytes })
 }
 
-// The hash of the first `n` bytes, with the checksum field as 0.
-fn checksum_of(bytes: &[u8], n: usize) -> u64
-    requires { (160 ≤ n) × (n ≤ length bytes.now) }
-    ensures { result ≡ hashed (overwrite checksum_offset (zeros 8) (take n bytes.now)) }
+// The hash of a block's bytes, with the checksum field as 0.
+fn checksum_of(block: &[u8]) -> u64
+    requires { 160 ≤ length block.now }
+    ensures { result ≡ hashed (overwrite checksum_offset (zeros 8) block.now) }
 {
     let blank = [0u8; 8];
     let at = Superblock::field_offset(Superblock::META_CHECKSUM);
-    let before = fnv1a64(&bytes[..at]);
+    let before = fnv1a64(&block[..at]);
     let field = fold_fnv1a64(before, &blank);
-    fold_fnv1a64(field, &bytes[Superblock::EXTENTS_OFFSET..n])
+    fold_fnv1a64(field, &block[Superblock::EXTENTS_OFFSET..])
 }
 
 // The superblock in the first bytes of a slice, or 1, 2 or 3.
@@ -51,11 +51,11 @@ pub fn load(bytes: &[u8]) -> Result<Superblock, Refusal>
     if Superblock::MAX_ZERO_EXTENTS < block.zero_extent_count {
         return Err(Refusal::MetaChecksumMismatch);
     }
-    let n = block.encoded_len();
-    if block.meta_checksum != checksum_of(bytes, n) {
+    let encoded = &bytes[..block.encoded_len()];
+    if block.meta_checksum != checksum_of(encoded) {
         return Err(Refusal::MetaChecksumMismatch);
     }
-    if !normalized(&bytes[Superblock::EXTENTS_OFFSET..n]) {
+    if !normalized(&encoded[Superblock::EXTENTS_OFFSET..]) {
         return Err(Refusal::MetaChecksumMismatch);
     }
     Ok(block)

@@ -8,6 +8,7 @@ use store::State;
 use update::Overlay;
 
 // "Beginning an update tests 10, then 13." A budget of pages and bytes counts where it is `limited`. The file's size.
+// The limits come one by one, as C and the plain file speak of each, and not as an `Option`: where they do not count they stay in the state as they came.
 pub fn begin_update(
     s: &mut State,
     limited: bool,

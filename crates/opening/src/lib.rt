@@ -1,4 +1,5 @@
 // What comes first: an image is opened, an update of it begun.
+// State and memory are two parameters, as `transfer` says.
 #![tactic(auto)]
 
 mod beginning;

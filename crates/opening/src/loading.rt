@@ -15,10 +15,7 @@ use store::State;
 fn is_past(end: u64, base: u64, n: u64) -> bool
     ensures { result ≡ ltb end (base + n) }
 {
-    match base.checked_add(n) {
-        Some(top) => end < top,
-        None => true,
-    }
+    base.checked_add(n).is_none_or(|top| end < top)
 }
 
 // 4 of an open import.
@@ -28,7 +25,9 @@ fn import_is_outside(b: Superblock, end: u64) -> bool
     b.import_base_offset < STABLE_PAGE_SIZE
         || is_past(end, b.import_base_offset, b.import_written_until)
         || b.import_total_size < b.import_written_until
-        || is_past(u64::MAX, b.import_base_offset, b.import_total_size)
+        || b.import_base_offset
+            .checked_add(b.import_total_size)
+            .is_none()
 }
 
 // 4, of memory of `end` bytes.
@@ -50,7 +49,8 @@ fn not_opened(count: StablePages) -> State
 
 // "at count 0 it stores a fresh superblock, or answers 32 if the ceiling is 0"
 fn open_fresh(mem: &mut [u8]) -> Result<State, Refusal>
-    ensures { opened_as 0 result mem.new ≡ open_fresh 16384 65536 8 1024 18446744073709551615 real_codec mem.old (grow_to 65536 0 65536 mem.old).mem (grow_to 65536 0 65536 mem.old).growth }
+    ensures { opened_as 0 result mem.new
+        ≡ open_fresh 16384 65536 8 1024 18446744073709551615 real_codec mem.old (grow_to 65536 0 65536 mem.old).mem (grow_to 65536 0 65536 mem.old).growth }
 {
     let count = memory::grow(mem, StablePages(0), STABLE_PAGE_SIZE)?;
     let block = Superblock::fresh();

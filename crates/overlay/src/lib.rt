@@ -1,5 +1,5 @@
 // The overlay of an update on lent slices: reads, writes and truncations of its file.
-// The lent slices are parameters of their own, as `update::Stored` says.
+// Slices that are lent to be changed are parameters of their own, as `update::Stored` says.
 #![tactic(auto)]
 
 mod changing;

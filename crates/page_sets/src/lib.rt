@@ -1,15 +1,25 @@
 // Sets of zero pages, each kept in place as its maximal runs in a list of numbers that the caller lends.
-// How many runs it holds stands beside the list: nothing is taken from the heap, and the list has room for more of them.
+// Nothing is taken from the heap, and the list has room for more runs.
 #![tactic(auto)]
 
 ghost use Rattle.std.specs.Prelude.{◌≡◌, true, ◌+◌, ◌*◌, ◌≤◌, ◌<◌, min, max, ◌∷◌, length, take};
 ghost use Rattle.meta.specs.Runs.{run, normalized};
 ghost use Rattle.runs.specs.Sets.{merge, maximal, without, piece};
 ghost use Rattle.runs.specs.Flat.{runs_in, out, held, padded, laid, at, put, upto, write, place};
+ghost use Rattle.page_sets.specs.Lent.{IsSameList};
 
 use meta::ZeroExtent;
 use runs::RunList;
 
+// A set: its maximal runs, the first `count` of the list.
+#[derive(Drop)]
+pub struct RunSet<'a> {
+    work: &'a mut [u64],
+    count: usize,
+    ghost tidy: { (count * 2 ≤ length work.now) × (normalized (runs_in count work.now) ≡ true) },
+}
+
+// The steps on the list take it and the count apart: between their stores the runs are not yet those of a set.
 fn store(work: &mut [u64], i: usize, x: ZeroExtent)
     requires { i * 2 + 1 < length work.old }
     ensures { work.new ≡ put work.old i x }
@@ -37,18 +47,6 @@ fn close(work: &mut [u64], count: usize, o: usize, j: usize) -> usize
     o + (count - j)
 }
 
-// How many runs end before `page`. The last run is asked first: what lies behind it is placed at once. Then by halving.
-fn find(work: &[u64], count: usize, page: u64) -> usize
-    requires { (count * 2 ≤ length work.now) × (normalized (upto work.now 0 count) ≡ true) }
-    ensures { result ≡ place page (upto work.now 0 count) }
-{
-    if 0 < count && runs::read(work, count - 1).end < page {
-        return count;
-    }
-    let (pairs, _) = work[..count * 2].as_chunks::<2>();
-    pairs.partition_point(|pair| pair[1] < page)
-}
-
 // A run, and the first run that it does not take up.
 #[derive(Clone, Copy)]
 struct Met {
@@ -56,40 +54,16 @@ struct Met {
     next: usize,
 }
 
-// The run `start .. end` with the runs from `i` on that it meets.
-fn meet(work: &[u64], count: usize, i: usize, start: u64, end: u64) -> Met
-    requires { (i ≤ count) × (count * 2 ≤ length work.now) }
-    ensures { (i ≤ result.next) × (result.next ≤ count) × (merge (run start end) (upto work.now i count) ≡ result.run ∷ upto work.now result.next count) }
+// The run goes in the place of those that it takes up, which stand from `i` on: how many runs there are then.
+fn replace(work: &mut [u64], count: usize, i: usize, met: Met) -> usize
+    requires { (i ≤ met.next) × (met.next ≤ count) × (count * 2 + 1 < length work.old) }
+    ensures { out work.new result ≡ write work.old i (met.run ∷ upto work.old met.next count) }
 {
-    let mut run = ZeroExtent { start, end };
-    for next in i..count {
-        let x = runs::read(work, next);
-        if run.end < x.start {
-            return Met { run, next };
-        }
-        run = ZeroExtent {
-            start: run.start.min(x.start),
-            end: run.end.max(x.end),
-        };
-    }
-    Met { run, next: count }
-}
-
-// Adds the pages `start .. end` to the set whose normalized runs are the first `count` of the list: how many runs there are then.
-pub fn add(work: &mut [u64], count: usize, start: u64, end: u64) -> usize
-    requires { (count * 2 + 1 < length work.old) × (normalized (runs_in count work.old) ≡ true) }
-    ensures { out work.new result ≡ held work.old (maximal (run start end ∷ runs_in count work.old)) }
-{
-    if end <= start {
-        return count;
-    }
-    let i = find(work, count, start);
-    let Met { run, next } = meet(work, count, i, start, end);
-    if i < next {
-        store(work, i, run);
-        close(work, count, i + 1, next)
+    if i < met.next {
+        store(work, i, met.run);
+        close(work, count, i + 1, met.next)
     } else {
-        open(work, count, i, run)
+        open(work, count, i, met.run)
     }
 }
 
@@ -120,49 +94,116 @@ fn cut(work: &mut [u64], count: usize, i: usize, x: ZeroExtent, page: u64) -> us
     close(work, count, i, i + 1)
 }
 
-// Takes one page out of the set whose normalized runs are the first `count` of the list: how many runs there are then.
-pub fn remove(work: &mut [u64], count: usize, page: u64) -> usize
-    requires { (count * 2 + 1 < length work.old) × (normalized (runs_in count work.old) ≡ true) }
-    ensures { out work.new result ≡ held work.old (maximal (without page (runs_in count work.old))) }
-{
-    let i = find(work, count, page);
-    if i == count {
-        return count;
+impl<'a> RunSet<'a> {
+    // The set whose maximal runs stand in front of a list already.
+    pub fn of(work: &'a mut [u64], count: usize) -> RunSet<'a>
+        requires { (count * 2 ≤ length work.old) × (normalized (runs_in count work.old) ≡ true) }
+        ensures same { IsSameList work.entry result.work }
+        ensures runs { (result.count ≡ count) × (result.work.now ≡ work.old) }
+    {
+        RunSet { work, count }
     }
-    let x = runs::read(work, i);
-    if x.end <= page || page < x.start {
-        return count;
+
+    // The maximal runs of the set that any runs denote, in front of the list.
+    fn gather<L: RunList>(work: &'a mut [u64], list: L) -> RunSet<'a>
+        requires { length (L.runs list) * 2 ≤ length work.old }
+        ensures same { IsSameList work.entry result.work }
+        ensures runs { (runs_in result.count result.work.now ≡ maximal (L.runs list)) × (result.count ≤ length (L.runs list)) }
+    {
+        let mut set = RunSet::of(work, 0);
+        for x in list.iter() {
+            set.add(x);
+        }
+        set
     }
-    cut(work, count, i, x, page)
-}
 
-// The maximal runs of the set that any runs denote, in front of the list: how many they are.
-fn gather<L: RunList>(work: &mut [u64], list: L) -> usize
-    requires { length (L.runs list) * 2 ≤ length work.old }
-    ensures { (runs_in result work.new ≡ maximal (L.runs list)) × (result ≤ length (L.runs list)) }
-{
-    let mut have = 0;
-    for i in 0..list.count() {
-        let x = list.get(i);
-        have = add(work, have, x.start, x.end);
+    // As `gather`, and the rest of the list becomes zeros.
+    pub fn copy<L: RunList>(work: &'a mut [u64], list: L) -> RunSet<'a>
+        requires { length (L.runs list) * 2 ≤ length work.old }
+        ensures same { IsSameList work.entry result.work }
+        ensures runs { out result.work.now result.count ≡ laid (length work.old) (maximal (L.runs list)) }
+    {
+        let count = RunSet::gather(work, list).count;
+        runs::clear(work, count * 2);
+        RunSet::of(work, count)
     }
-    have
-}
 
-// As `gather`, and the rest of the list becomes zeros.
-pub fn copy<L: RunList>(work: &mut [u64], list: L) -> usize
-    requires { length (L.runs list) * 2 ≤ length work.old }
-    ensures { out work.new result ≡ laid (length work.old) (maximal (L.runs list)) }
-{
-    let have = gather(work, list);
-    runs::clear(work, have * 2);
-    have
-}
+    // How many runs the set has.
+    pub fn len(&self) -> usize
+        ensures { result ≡ self.now.count }
+    {
+        self.count
+    }
 
-// The maximal runs of the first `count` runs of the numbers, and zeros behind them.
-pub fn copy_runs(work: &mut [u64], runs: &[u64], count: usize) -> usize
-    requires { count * 2 ≤ length work.old }
-    ensures { out work.new result ≡ laid (length work.old) (maximal (runs_in count runs.now)) }
-{
-    copy(work, runs::first(runs, count))
+    fn get(&self, i: usize) -> ZeroExtent
+        requires { i < self.now.count }
+        ensures { result ≡ at self.now.work.now i }
+    {
+        runs::read(self.work, i)
+    }
+
+    // How many runs end before `page`. The last run is asked first: what lies behind it is placed at once. Then by halving.
+    fn find(&self, page: u64) -> usize
+        ensures { result ≡ place page (upto self.now.work.now 0 self.now.count) }
+    {
+        if 0 < self.count && self.get(self.count - 1).end < page {
+            return self.count;
+        }
+        let (pairs, _) = self.work[..self.count * 2].as_chunks::<2>();
+        pairs.partition_point(|pair| pair[1] < page)
+    }
+
+    // The run `x` with the runs from `i` on that it meets: the index is a part of the answer.
+    fn meet(&self, i: usize, x: ZeroExtent) -> Met
+        requires { i ≤ self.now.count }
+        ensures { (i ≤ result.next) × (result.next ≤ self.now.count)
+            × (merge x (upto self.now.work.now i self.now.count) ≡ result.run ∷ upto self.now.work.now result.next self.now.count) }
+    {
+        let mut run = x;
+        for next in i..self.count {
+            let y = self.get(next);
+            if run.end < y.start {
+                return Met { run, next };
+            }
+            run = ZeroExtent {
+                start: run.start.min(y.start),
+                end: run.end.max(y.end),
+            };
+        }
+        Met {
+            run,
+            next: self.count,
+        }
+    }
+
+    // Adds the pages of a run.
+    pub fn add(&mut self, x: ZeroExtent)
+        requires { self.old.count * 2 + 1 < length self.old.work.now }
+        ensures same { IsSameList self.old.work self.new.work }
+        ensures runs { out self.new.work.now self.new.count ≡ held self.old.work.now (maximal (x ∷ runs_in self.old.count self.old.work.now)) }
+    {
+        if x.end <= x.start {
+            return;
+        }
+        let i = self.find(x.start);
+        let met = self.meet(i, x);
+        self.count = replace(self.work, self.count, i, met);
+    }
+
+    // Takes one page out.
+    pub fn remove(&mut self, page: u64)
+        requires { self.old.count * 2 + 1 < length self.old.work.now }
+        ensures same { IsSameList self.old.work self.new.work }
+        ensures runs { out self.new.work.now self.new.count ≡ held self.old.work.now (maximal (without page (runs_in self.old.count self.old.work.now))) }
+    {
+        let i = self.find(page);
+        if i == self.count {
+            return;
+        }
+        let x = self.get(i);
+        if x.end <= page || page < x.start {
+            return;
+        }
+        self.count = cut(self.work, self.count, i, x, page);
+    }
 }

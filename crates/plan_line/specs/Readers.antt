@@ -1,9 +1,10 @@
 -- What a line says, computed from its front: the definition that the readers are proved against.
-use Rattle.std.specs.Prelude.{List, ℕ, Option, Some, None}
+use Rattle.std.specs.Prelude.{List, ℕ, Option}
 use Rattle.meta.specs.declared.ZeroExtent.{ZeroExtent}
 use Rattle.meta.specs.Runs.{run}
-use Rattle.decimal.specs.Text.{Got, got, wrong, then, from, skip, number}
-use Rattle.plan_line.specs.declared.Line.{Line}
+use Rattle.decimal.specs.Text.{Got, got, then, skip, number}
+use Rattle.decimal.specs.declared.read.Found.{Found}
+use Rattle.decimal.specs.Places.{found_in}
 use Rattle.plan_line.specs.Values.{ascii}
 
 unfoldable pub read_number : List ℕ → Got ℕ
@@ -16,6 +17,5 @@ unfoldable pub read_field : List ℕ → List ℕ → Got ℕ
 read_field key l = then (skip key l) (λ _ m. read_number m)
 
 -- what the code answers
-abbrev pub line_in : List ℕ → Option Line → Got ZeroExtent
-line_in t (Some x) = got x.run (from t x.next)
-line_in t None = wrong
+abbrev pub line_in : List ℕ → Option (Found ZeroExtent) → Got ZeroExtent
+line_in = found_in

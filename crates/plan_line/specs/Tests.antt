@@ -1,10 +1,11 @@
--- Laws of the tests of what was read, one for each turn of a loop.
-use Rattle.std.specs.Prelude.{◌≡◌, refl, List, [], ◌∷◌, ℕ, zero, suc, ◌+◌, ◌-◌, ◌/◌, ◌≤◌, ◌<◌, length, get_or, take, drop, ltb, eqb}
+-- Laws of the tests of what was read: one for each turn of a loop, and those for the loops of the library.
+use Rattle.std.specs.Prelude.{◌≡◌, refl, List, [], ◌∷◌, ℕ, zero, suc, ◌+◌, ◌-◌, ◌/◌, ◌≤◌, ◌<◌, not, length, get_or, take, drop, ltb, eqb}
 use Rattle.std.specs.Bool.{MatchBool}
-use Rattle.std.specs.List.{IsAllAdjacentAnswer, AllWithin, HoldsAt, list_any}
+use Rattle.std.specs.List.{IsAllAdjacentAnswer, AllWithin, HoldsAt, list_any, list_all, enumerate_from}
 use Rattle.std.specs.Simd.{first_chunks}
 use Rattle.std.proofs.Math.Path.{sym, ap}
 use Rattle.std.proofs.Common.{◌∙◌, add-one, length-drop, drop_of_length-le, drop-cons, take_all}
+use Rattle.std.proofs.lemmas.List.{drop-drop}
 use mathlib.Core.Bool.{Bool, true, false, ◌&&◌, ◌||◌}
 use native.Mathlib.Omega.{arith}
 use borrow.Author.Tests.{lt-ltb, le-ltb, eq-eqb, ne_eqb}
@@ -163,6 +164,20 @@ member_is n (x ∷ l) = ap (λ (b : Bool). eqb x n || b) (member_is n l)
 
 pub rest_has : (n : ℕ) (l : List ℕ) (i : ℕ) → list_any (λ y. eqb y n) (take (length l - i) (drop i l)) ≡ member n (drop i l)
 rest_has n l i = rw (rest_is l i) (member_is n (drop i l))
+
+-- the number at a place stands nowhere behind it; the library goes through the numbers so, each with its place
+abbrev pub is_last : List ℕ → ℕ × ℕ → Bool
+is_last l p = not (member p.1 (drop (p.0 + 1) l))
+
+distinct_from : (l m : List ℕ) (i : ℕ) → drop i l ≡ m → list_all (is_last l) (enumerate_from i m) ≡ distinct m
+unfolding distinct
+distinct_from l [] i e = refl
+distinct_from l (n ∷ m) i e =
+    let d : drop (i + 1) l ≡ m = sym (drop-drop 1 i l) ∙ ap (drop 1) e in
+    rw d (ap (λ (b : Bool). not (member n m) && b) (distinct_from l m (i + 1) d))
+
+pub distinct_answer : (l : List ℕ) → list_all (is_last l) (enumerate_from 0 l) ≡ distinct l
+distinct_answer l = distinct_from l l 0 refl
 
 -- ## Runs as numbers
 

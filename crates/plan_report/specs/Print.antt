@@ -1,5 +1,5 @@
 -- The text of an answer in a buffer.
-use Rattle.std.specs.Prelude.{◌≡◌, refl, Result, Ok, Err, cond, List, [], ◌∷◌, ◌++◌, map, ℕ, zero, suc, ◌+◌, ◌-◌, ◌*◌, ◌/◌, ◌≤◌, ◌<◌, length, take, drop, get_or, leb}
+use Rattle.std.specs.Prelude.{◌≡◌, refl, Option, Some, None, Result, Ok, Err, cond, List, [], ◌∷◌, ◌++◌, map, ℕ, zero, suc, ◌+◌, ◌-◌, ◌*◌, ◌/◌, ◌≤◌, ◌<◌, length, take, drop, get_or, leb}
 use Rattle.std.proofs.Common.{ap, ◌∙◌, add-one, drop-cons, drop_of_length-le, append_assoc, arith, length-append, length-drop, take_at, drop_at, le-leb}
 use Rattle.std.proofs.lemmas.Bool.{lt-leb}
 use Rattle.std.specs.Simd.{first_chunks}
@@ -15,6 +15,11 @@ use Rattle.plan_line.specs.Tests.{drop-two}
 -- its length, and the buffer with it at the front, where there is room for the longest answer with as many runs
 unfoldable pub printed : Result ℕ PlanError → List ZeroExtent → List ℕ → Written
 printed answer runs out = cond (leb (72 + 49 * length runs) (length out)) (write 0 (report answer runs) out) (written 0 out)
+
+-- the length that the code answers, where there is room; and nothing is put where there is none
+abbrev pub put_length : Option ℕ → ℕ
+put_length (Some n) = n
+put_length None = 0
 
 -- ## How long
 

@@ -1,10 +1,12 @@
 -- The lines of any kind: what a reader's answer says, what the lent buffer holds of the values, and the turns of the loop that reads them.
-use Rattle.std.specs.Prelude.{◌≡◌, Option, Some, None, Bool, true, false, List, [], ◌∷◌, ◌++◌, ℕ, zero, suc, refl, ◌+◌, ◌-◌, ◌*◌, ◌/◌, ◌≤◌, ◌<◌, length, take}
+use Rattle.std.specs.Prelude.{◌≡◌, Option, Bool, true, false, List, [], ◌∷◌, ◌++◌, ℕ, zero, suc, refl, ◌+◌, ◌-◌, ◌*◌, ◌/◌, ◌≤◌, ◌<◌, length, take}
 use Rattle.std.proofs.Common.{sym, ap, ◌∙◌, arith, length-append}
 use Rattle.std.proofs.Math.Nat.{le-div_iff_mul-le}
 use Rattle.std.proofs.lemmas.List.Edits.{sets}
 use borrow.Rule.Slice.PartMut.{put_mid}
-use Rattle.decimal.specs.Text.{Got, got, wrong, from, skip}
+use Rattle.decimal.specs.declared.read.Found.{Found}
+use Rattle.decimal.specs.Places.{found_in}
+use Rattle.decimal.specs.Text.{Got, got, wrong, skip}
 use Rattle.decimal.specs.Write.{sets_append, sets_part}
 use Rattle.plan_text.specs.Parse.{Section, ended, broken, more, keyed, valued, section, tested}
 use Rattle.plan_text.specs.Fill.{Filled, filled, torn}
@@ -13,9 +15,8 @@ use Rattle.plan_text.specs.Turns.{section_full, section_bad, section_more}
 use Rattle.plan_text.specs.Tested.{Kind, used_fits, answer_passed, answer_failed, broken_before}
 
 -- a value, and the text from the place behind it
-abbrev pub entry_in : {A : Type 0} → List ℕ → Option (A × ℕ) → Got A
-entry_in t (Some (x, next)) = got x (from t next)
-entry_in t None = wrong
+abbrev pub entry_in : {A : Type 0} → List ℕ → Option (Found A) → Got A
+entry_in = found_in
 
 -- n lines are in the buffer already, each as so many numbers
 abbrev pub fill : {A : Type 0} → ℕ → (List A → List ℕ) → ℕ → Section A → List ℕ → Filled

@@ -3,8 +3,8 @@ use Rattle.std.specs.Prelude.{Option, Some, None, List, ℕ, ◌+◌, ◌*◌, l
 use Rattle.std.proofs.lemmas.List.Edits.{sets}
 use Rattle.meta.specs.declared.ZeroExtent.{ZeroExtent}
 use Rattle.meta.specs.Runs.{numbers_of}
+use Rattle.decimal.specs.declared.read.Found.{Found}
 use Rattle.decimal.specs.Text.{from}
-use Rattle.plan_text.specs.declared.section.Lines.{Lines}
 use Rattle.plan_text.specs.declared.Parsed.{Parsed}
 use Rattle.plan_text.specs.Parse.{Section, ended, broken, Reading}
 
@@ -15,8 +15,8 @@ pub data Filled : Type 0 where
   filled : ℕ → List ℕ → List ℕ → Filled
   torn : List ℕ → Filled
 
-abbrev pub lines_in : List ℕ → Option Lines → List ℕ → Filled
-lines_in t (Some lines) out = filled lines.count (from t lines.next) out
+abbrev pub lines_in : List ℕ → Option (Found ℕ) → List ℕ → Filled
+lines_in t (Some lines) out = filled lines.value (from t lines.next) out
 lines_in t None out = torn out
 
 -- n lines are in the buffer already

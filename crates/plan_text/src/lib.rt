@@ -12,6 +12,8 @@ use plan_line::{are_distinct, is_ascending, none_is_empty, read_field};
 pub use plan_report::{PlanError, print};
 
 // The two sizes, and how many lines there are of each kind.
+// Not slices of the buffers, tried: of a lent buffer that a result borrows a contract cannot say what it holds at the end, and
+// `parse` says it also of a malformed text.
 #[derive(Clone, Copy, Debug, PartialEq, Eq)]
 pub struct Parsed {
     pub old_size: u64,
@@ -44,25 +46,24 @@ fn parse_lists(
 ) -> Option<Parsed>
     ensures { outcome result extents.new recorded.new dirty.new ≡ filled_by (parse_extents old new (from text.now at)) extents.old recorded.old dirty.old }
 {
-    // Closures, since a function of another crate passed by its name gets no proof.
-    let first = read_section::<ZeroExtent, _>(text, at, b"extent=", extents, |x| is_ascending(x))?;
+    let first = read_section::<ZeroExtent, _>(text, at, b"extent=", extents, is_ascending)?;
     let second = read_section::<ZeroExtent, _>(
         text,
         first.next,
         b"record=",
         recorded,
-        |x| none_is_empty(x),
+        none_is_empty,
     )?;
-    let third = read_section::<u64, _>(text, second.next, b"dirty=", dirty, |x| are_distinct(x))?;
+    let third = read_section::<u64, _>(text, second.next, b"dirty=", dirty, are_distinct)?;
     if third.next < text.len() {
         return None;
     }
     Some(Parsed {
         old_size: old,
         new_size: new,
-        extents: first.count,
-        recorded: second.count,
-        dirty: third.count,
+        extents: first.value,
+        recorded: second.value,
+        dirty: third.value,
     })
 }
 

@@ -6,10 +6,11 @@ ghost use Rattle.decimal.specs.Text.{Got, from};
 ghost use Rattle.meta.specs.Runs.{numbers_of};
 ghost use Rattle.plan_line.specs.Readers.{read_number, read_run};
 ghost use Rattle.plan_text.specs.Parse.{section, tested};
-ghost use Rattle.plan_text.specs.Entries.{entry_in, fill};
+ghost use Rattle.decimal.specs.Places.{found_in};
+ghost use Rattle.plan_text.specs.Entries.{fill};
 ghost use Rattle.std.proofs.Common.{rules};
 
-use decimal::skip;
+use decimal::{Found, skip};
 use meta::ZeroExtent;
 use plan_line::{read_number, read_run};
 
@@ -25,8 +26,8 @@ pub trait Entry: Copy {
     ghost numbers: { List Self → List ℕ };
 
     // The value, and the place where the next line begins.
-    fn read(text: &[u8], at: usize) -> Option<(Self, usize)>
-        ensures { entry_in text.now result ≡ reading (from text.now at) };
+    fn read(text: &[u8], at: usize) -> Option<Found<Self>>
+        ensures { found_in text.now result ≡ reading (from text.now at) };
 
     fn put(self, out: &mut [u64])
         requires { length out.old ≡ WIDTH }
@@ -50,9 +51,8 @@ impl Entry for ZeroExtent {
 
     ghost numbers = { numbers_of };
 
-    fn read(text: &[u8], at: usize) -> Option<(ZeroExtent, usize)> {
-        let line = read_run(text, at)?;
-        Some((line.run, line.next))
+    fn read(text: &[u8], at: usize) -> Option<Found<ZeroExtent>> {
+        read_run(text, at)
     }
 
     fn put(self, out: &mut [u64]) {
@@ -77,9 +77,8 @@ impl Entry for u64 {
 
     ghost numbers = { λ xs. xs };
 
-    fn read(text: &[u8], at: usize) -> Option<(u64, usize)> {
-        let line = read_number(text, at)?;
-        Some((line.value, line.next))
+    fn read(text: &[u8], at: usize) -> Option<Found<u64>> {
+        read_number(text, at)
     }
 
     fn put(self, out: &mut [u64]) {
@@ -95,33 +94,31 @@ impl Entry for u64 {
     ghost width = { λ x. refl };
 }
 
-// How many lines there were, and where the text goes on.
-#[derive(Clone, Copy, Debug, PartialEq, Eq)]
-pub struct Lines {
-    pub count: usize,
-    pub next: usize,
-}
-
 ghost use Rattle.plan_text.specs.Fill.{lines_in};
 
-fn read_lines<E: Entry>(text: &[u8], at: usize, key: &[u8], out: &mut [u64]) -> Option<Lines>
+// How many lines there are, and where the text goes on.
+fn read_lines<E: Entry>(text: &[u8], at: usize, key: &[u8], out: &mut [u64]) -> Option<Found<usize>>
     ensures { lines_in text.now result out.new ≡ fill E.WIDTH E.numbers 0 (section E.reading key.now (length out.old / E.WIDTH) (from text.now at)) out.old }
 {
     let most = out.len() / E::WIDTH;
     let mut here = at;
+    // By an index, tried without: once what `chunks_exact_mut` lends is given back, a proof knows the buffer's length alone.
     for count in 0..most {
         let Some(value) = skip(text, here, key) else {
-            return Some(Lines { count, next: here });
+            return Some(Found {
+                value: count,
+                next: here,
+            });
         };
-        let (entry, next) = E::read(text, value)?;
+        let entry = E::read(text, value)?;
         let place = count * E::WIDTH;
-        entry.put(&mut out[place..place + E::WIDTH]);
-        here = next;
+        entry.value.put(&mut out[place..place + E::WIDTH]);
+        here = entry.next;
     }
     match skip(text, here, key) {
         Some(_) => None,
-        None => Some(Lines {
-            count: most,
+        None => Some(Found {
+            value: most,
             next: here,
         }),
     }
@@ -134,12 +131,14 @@ pub fn read_section<E: Entry, F: Fn(&[u64]) -> bool>(
     key: &[u8],
     out: &mut [u64],
     test: F,
-) -> Option<Lines>
+) -> Option<Found<usize>>
     requires { F.IsAlwaysCallable test }
-    ensures { (ok : List E → Bool) → ((xs : List E) (r : Bool) → FnReturnsAt F.Fn test (E.numbers xs) r → r ≡ ok xs) → lines_in text.now result out.new ≡ fill E.WIDTH E.numbers 0 (tested ok (section E.reading key.now (length out.old / E.WIDTH) (from text.now at))) out.old }
+    ensures { (ok : List E → Bool) → ((xs : List E) (r : Bool) → FnReturnsAt F.Fn test (E.numbers xs) r → r ≡ ok xs)
+        → lines_in text.now result out.new
+        ≡ fill E.WIDTH E.numbers 0 (tested ok (section E.reading key.now (length out.old / E.WIDTH) (from text.now at))) out.old }
 {
     let lines = read_lines::<E>(text, at, key, out)?;
-    let used = lines.count * E::WIDTH;
+    let used = lines.value * E::WIDTH;
     if !test(&out[..used]) {
         return None;
     }

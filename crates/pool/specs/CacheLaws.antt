@@ -19,6 +19,7 @@ use Rattle.update.specs.PageLaws.{numbers-pages_in, numbers-length, keep_few, dr
 use Rattle.update.specs.Image.{image_page}
 use Rattle.update.specs.Buffers.{cached, settled, clean_pages}
 use Rattle.update.specs.Frames.{Pool, relaid, retained, CacheOut, cache_out, cache_laid, inserted, load_out, load_laid}
+use Rattle.pool.specs.Pool.{retained_by}
 use Rattle.pool.specs.Cache.{room_made}
 
 -- ## Pages in a pool
@@ -51,6 +52,12 @@ module _ (P : ℕ) where
 pub length_retained : (below : Bool) (p : ℕ) (d : List Page) → length (retained below p d) ≤ length d
 length_retained true p d = keep_few p d
 length_retained false p d = drop-few p d
+
+pub length_retained_by : (keep : ℕ → Bool) (d : List Page) → length (retained_by keep d) ≤ length d
+length_retained_by keep [] = omega arith
+length_retained_by keep (g ∷ d) = split (keep g.number)
+    (λ t. rw t (omega (arith, length_retained_by keep d)))
+    (λ f. rw f (omega (arith, length_retained_by keep d)))
 
 -- ## A settled cache
 

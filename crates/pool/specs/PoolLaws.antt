@@ -1,6 +1,9 @@
 -- Laws of a pool of pages as the code walks it.
 use Rattle.std.specs.Prelude.{Option, Some, None, ◌≡◌, refl, ℕ, zero, suc, ◌+◌, ◌-◌, ◌*◌, ◌/◌, ◌≤◌, ◌<◌, min, Bool, true, false, ◌||◌, List, [], ◌∷◌, ◌++◌, ltb, eqb, length, take, drop, get_or, set, Ok, Err}
-use Rattle.std.specs.List.{copy_within, position, position_or_len}
+use Rattle.std.specs.List.{copy_within, position, position_or_len, fold}
+use Rattle.std.specs.Option.{unwrap_or}
+use Rattle.std.specs.Simd.{first_chunks}
+use Rattle.std.proofs.lemmas.List.Sums.{prefix_len-le-length}
 use Rattle.std.proofs.Common.{take_all, append_assoc, sym, ap, ◌∙◌, arith, true≢false, length-take, length-drop, drop_of_length-le, drop-cons, take-suc, get_or-take, get_or-drop, drop-drop}
 use Rattle.std.proofs.Math.Numerals.{add-one}
 use Rattle.std.proofs.lemmas.List.{set-get_or}
@@ -9,7 +12,7 @@ use Rattle.memory.specs.Bytes.{overwrite}
 use Rattle.memory.specs.Laws.{split, length_part, length-overwrite, overwrite_hi, overwrite_join, set_overwrite}
 use Rattle.update.specs.Pages.{place_of}
 use Rattle.update.specs.Frames.{Pool, pool}
-use Rattle.pool.specs.Pool.{among, place_found, stays, kept_one, walked, pushes, pushed}
+use Rattle.pool.specs.Pool.{among, place_found, stays, retained_one, retained_front, kept_one, walked, pushes, pushed}
 use Rattle.config.specs.declared.refusal.Refusal.TheVariants.{RecordFull}
 use Rattle.update.specs.ListLaws.{overwrite_self}
 
@@ -87,6 +90,61 @@ place_past (suc k) (n ∷ ns) q h f =
     (λ t. absurd (true≢false (rw t at f)))
     (λ t. rw t (let r : place_of ns q ≡ k + place_of (drop k ns) q = place_past k ns q (omega arith) (rw t at f) in omega arith))
 
+-- what the code asks of a block
+abbrev pub has : ℕ → List ℕ → Bool
+has q b = fold (λ (found : Bool) (n : ℕ). found || eqb n q) false b
+
+had_before : (b : List ℕ) (q : ℕ) (was : Bool) → fold (λ (found : Bool) (n : ℕ). found || eqb n q) was b ≡ (was || among b q)
+had_before [] q true = refl
+had_before [] q false = refl
+had_before (n ∷ b) q true = had_before b q true
+had_before (n ∷ b) q false = had_before b q (eqb n q)
+
+length-chunks : (k : ℕ) (ns : List ℕ) → length (first_chunks 8 k ns) ≡ k
+length-chunks zero ns = refl
+length-chunks (suc k) ns = rw (length-chunks k (drop 8 ns)) refl
+
+-- the page's place is behind the blocks that have it not
+blocks_walked : (k : ℕ) (ns : List ℕ) (q : ℕ) → k * 8 ≤ length ns
+    → place_of ns q ≡ position_or_len (has q) (first_chunks 8 k ns) * 8 + place_of (drop (position_or_len (has q) (first_chunks 8 k ns) * 8) ns) q
+blocks_walked zero ns q h = omega arith
+blocks_walked (suc k) ns q h = split (has q (take 8 ns))
+    (λ t. rw t (omega arith))
+    (λ t. let m : ℕ = position_or_len (has q) (first_chunks 8 k (drop 8 ns)) in
+    let f : among (take 8 ns) q ≡ false = rw (had_before (take 8 ns) q false) at t in
+    let a : place_of ns q ≡ 8 + place_of (drop 8 ns) q = place_past 8 ns q (omega (arith, h)) f in
+    let b : place_of (drop 8 ns) q ≡ m * 8 + place_of (drop (m * 8) (drop 8 ns)) q = blocks_walked k (drop 8 ns) q (simp length-drop (omega (arith, h))) in
+    let e : 8 + m * 8 ≡ (1 + m) * 8 = omega arith in
+    let d : drop (m * 8) (drop 8 ns) ≡ drop ((1 + m) * 8) ns = drop-drop (m * 8) 8 ns ∙ ap (λ j. drop j ns) e in
+    let s : position_or_len (has q) (first_chunks 8 (suc k) ns) ≡ 1 + m = rw t refl in
+    rw (s, a, b, d) (omega arith))
+
+-- `position` gives r for the blocks, and so u of them have not the page
+module _ (ns : List ℕ) (q : ℕ) (r : Option ℕ) (u : ℕ) (h : r ≡ position (has q) (first_chunks 8 (length ns / 8) ns)) (w : u ≡ unwrap_or r (length ns / 8)) where
+  passed : (u * 8 ≤ length ns) × (place_of ns q ≡ u * 8 + place_of (drop (u * 8) ns) q)
+  passed =
+      let k : ℕ = length ns / 8 in
+      let m : ℕ = position_or_len (has q) (first_chunks 8 k ns) in
+      let l : m ≤ length (first_chunks 8 k ns) = prefix_len-le-length _ (first_chunks 8 k ns) in
+      let c : length (first_chunks 8 k ns) ≡ k = length-chunks k ns in
+      let s : u ≡ m = w ∙ split (ltb m (length (first_chunks 8 k ns)))
+      (λ t. rw (h, t) refl)
+      (λ t. rw (h, t) (let n : length (first_chunks 8 k ns) ≤ m = ltb-false m (length (first_chunks 8 k ns)) t in omega (arith, l, n, c))) in
+      rw s (omega (arith, l, c), blocks_walked k ns q (omega arith))
+
+  rest_length : u * 8 + length (drop (u * 8) ns) ≡ length ns
+  rest_length = simp length-drop (omega (arith, passed))
+
+  -- the rest, as the code slices it
+  rest_whole : take (length ns - u * 8) (drop (u * 8) ns) ≡ drop (u * 8) ns
+  rest_whole = take_all (length ns - u * 8) (drop (u * 8) ns) (omega (arith, rest_length))
+
+  pub found_behind : (at : ℕ) → Some at ≡ position (λ (n : ℕ). eqb n q) (take (length ns - u * 8) (drop (u * 8) ns)) → Some (u * 8 + at) ≡ place_found ns q
+  found_behind at e = rest_found (u * 8) ns (drop (u * 8) ns) q passed.1 rest_length at (rw rest_whole at e)
+
+  pub missed_behind : None ≡ position (λ (n : ℕ). eqb n q) (take (length ns - u * 8) (drop (u * 8) ns)) → None ≡ place_found ns q
+  missed_behind e = rest_missed (u * 8) ns (drop (u * 8) ns) q passed.1 rest_length (rw rest_whole at e)
+
 module _ (count : ℕ) (ns : List ℕ) (page i : ℕ) where
   -- one number more of the block
   pub block_more : (k : ℕ) → i ≤ k → k < min count (length ns)
@@ -155,33 +213,61 @@ module _ (w : List ℕ) (n a e : ℕ) where
 
 -- ## One page
 
+module _ (P : ℕ) (keep : ℕ → Bool) (ns fs : List ℕ) (i to : ℕ) where
+  pub one_gone : keep (get_or ns i 0) ≡ false → retained_one P keep ns fs i to ≡ pool ns fs to
+  unfolding retained_one
+  one_gone e = rw e
+
+  module _ (e : keep (get_or ns i 0) ≡ true) where
+    pub one_moved : retained_one P keep ns fs i to ≡ pool (set ns to (get_or ns i 0)) (overwrite (to * P) (take P (drop (i * P) fs)) fs) (to + 1)
+    unfolding retained_one
+    one_moved = rw (e, add-one to)
+
+    pub one_there : to ≡ i → i * P + P ≤ length fs → retained_one P keep ns fs i to ≡ pool ns fs (to + 1)
+    one_there t h = one_moved ∙ rw (t, set-get_or ns i 0, overwrite_self (i * P) P fs)
+
+  pub one_count : (x : Pool) → x ≡ retained_one P keep ns fs i to → x.count ≤ to + 1
+  one_count x e = split (keep (get_or ns i 0))
+      (λ t. omega (arith, ap (λ (y : Pool). y.count) (e ∙ one_moved t)))
+      (λ f. omega (arith, ap (λ (y : Pool). y.count) (e ∙ one_gone f)))
+
+  -- ## The walk
+
+  module _ (n : ℕ) where
+    pub front_step : i < n → (x : Pool) → x ≡ retained_one P keep ns fs i to
+        → retained_front P keep (n - i) ns fs i to ≡ retained_front P keep (n - (i + 1)) x.numbers x.frames (i + 1) x.count
+    front_step h x e =
+        let m : n - i ≡ suc (n - suc i) = omega arith in
+        rw m (rw (add-one i) (ap (λ (y : Pool). retained_front P keep (n - suc i) y.numbers y.frames (suc i) y.count) (sym e)))
+
+    pub front_end : n ≤ i → retained_front P keep (n - i) ns fs i to ≡ pool ns fs to
+    front_end h = let m : n - i ≡ 0 = omega arith in rw m
+
+-- ## The same of the pages below p, or of all but p
+
 module _ (P : ℕ) (low : Bool) (p : ℕ) (ns fs : List ℕ) (i to : ℕ) where
   pub kept_gone : stays low p (get_or ns i 0) ≡ false → kept_one P low p ns fs i to ≡ pool ns fs to
   unfolding kept_one
-  kept_gone e = rw e
+  kept_gone e = one_gone P (stays low p) ns fs i to e
 
   module _ (e : stays low p (get_or ns i 0) ≡ true) where
     pub kept_moved : kept_one P low p ns fs i to ≡ pool (set ns to (get_or ns i 0)) (overwrite (to * P) (take P (drop (i * P) fs)) fs) (to + 1)
     unfolding kept_one
-    kept_moved = rw (e, add-one to)
+    kept_moved = one_moved P (stays low p) ns fs i to e
 
     pub kept_there : to ≡ i → i * P + P ≤ length fs → kept_one P low p ns fs i to ≡ pool ns fs (to + 1)
-    kept_there t h = kept_moved ∙ rw (t, set-get_or ns i 0, overwrite_self (i * P) P fs)
+    unfolding kept_one
+    kept_there t h = one_there P (stays low p) ns fs i to e t h
 
--- ## The walk
-
-module _ (P : ℕ) (low : Bool) (p : ℕ) (ns fs : List ℕ) (i to : ℕ) where
   pub kept_count : (x : Pool) → x ≡ kept_one P low p ns fs i to → x.count ≤ to + 1
-  kept_count x e = split (stays low p (get_or ns i 0))
-      (λ t. omega (arith, ap (λ (y : Pool). y.count) (e ∙ kept_moved P low p ns fs i to t)))
-      (λ f. omega (arith, ap (λ (y : Pool). y.count) (e ∙ kept_gone P low p ns fs i to f)))
+  unfolding kept_one
+  kept_count x e = one_count P (stays low p) ns fs i to x e
 
   module _ (n : ℕ) where
     pub walk_step : i < n → (x : Pool) → x ≡ kept_one P low p ns fs i to
         → walked P low p (n - i) ns fs i to ≡ walked P low p (n - (i + 1)) x.numbers x.frames (i + 1) x.count
-    walk_step h x e =
-        let m : n - i ≡ suc (n - suc i) = omega arith in
-        rw m (rw (add-one i) (ap (λ (y : Pool). walked P low p (n - suc i) y.numbers y.frames (suc i) y.count) (sym e)))
+    unfolding kept_one
+    walk_step h x e = front_step P (stays low p) ns fs i to n h x e
 
     pub walk_end : n ≤ i → walked P low p (n - i) ns fs i to ≡ pool ns fs to
-    walk_end h = let m : n - i ≡ 0 = omega arith in rw m
+    walk_end h = front_end P (stays low p) ns fs i to n h

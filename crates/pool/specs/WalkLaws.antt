@@ -11,8 +11,8 @@ use Rattle.memory.specs.Laws.{split, length_part, length-overwrite}
 use Rattle.update.specs.Lists.{refill}
 use Rattle.update.specs.Pages.{Page, page_numbers, flat, pages_in}
 use Rattle.update.specs.Frames.{Pool, pool, relaid, retained}
-use Rattle.pool.specs.Pool.{stays, kept_one, walked}
-use Rattle.pool.specs.PoolLaws.{kept_moved, kept_gone, kept_count}
+use Rattle.pool.specs.Pool.{stays, retained_by, retained_one, retained_front, walked}
+use Rattle.pool.specs.PoolLaws.{one_moved, one_gone, one_count}
 use Rattle.update.specs.ListLaws.{drop-overwrite, take_past, resize-take, zeros_refill}
 
 -- ## The pages that stay
@@ -29,14 +29,20 @@ retained_nil : (low : Bool) (p : ℕ) → retained low p [] ≡ []
 retained_nil true p = refl
 retained_nil false p = refl
 
-module _ (P : ℕ) (low : Bool) (p : ℕ) where
+pub retained_stays : (low : Bool) (p : ℕ) (d : List Page) → retained_by (stays low p) d ≡ retained low p d
+retained_stays low p [] = sym (retained_nil low p)
+retained_stays low p (g ∷ d) = split (stays low p g.number)
+    (λ t. rw (t, retained_hit low p g d t, retained_stays low p d))
+    (λ f. rw (f, retained_miss low p g d f, retained_stays low p d))
+
+module _ (P : ℕ) (keep : ℕ → Bool) where
   -- of the n pages from place i on
   unfoldable later : ℕ → List ℕ → List ℕ → ℕ → List Page
-  later n ns fs i = retained low p (pages_in P (take n (drop i ns)) (drop (i * P) fs))
+  later n ns fs i = retained_by keep (pages_in P (take n (drop i ns)) (drop (i * P) fs))
 
   later_none : (ns fs : List ℕ) (i : ℕ) → later 0 ns fs i ≡ []
   unfolding later
-  later_none ns fs i = retained_nil low p
+  later_none ns fs i = refl
 
   later_alike : (n : ℕ) (ns fs ns' fs' : List ℕ) (i : ℕ) → drop i ns' ≡ drop i ns → drop (i * P) fs' ≡ drop (i * P) fs → later n ns' fs' i ≡ later n ns fs i
   unfolding later
@@ -52,13 +58,13 @@ module _ (P : ℕ) (low : Bool) (p : ℕ) where
         let s : suc i * P ≡ i * P + P = suc-mul i P in
         rw (drop-cons ns i 0 h, drop-drop P (i * P) fs, s, r)
 
-    later_hit : stays low p (get_or ns i 0) ≡ true → later (suc n) ns fs i ≡ at_place ∷ later n ns fs (suc i)
+    later_hit : keep (get_or ns i 0) ≡ true → later (suc n) ns fs i ≡ at_place ∷ later n ns fs (suc i)
     unfolding later
-    later_hit e = ap (retained low p) in_front ∙ retained_hit low p at_place _ e
+    later_hit e = ap (retained_by keep) in_front ∙ rw e
 
-    later_miss : stays low p (get_or ns i 0) ≡ false → later (suc n) ns fs i ≡ later n ns fs (suc i)
+    later_miss : keep (get_or ns i 0) ≡ false → later (suc n) ns fs i ≡ later n ns fs (suc i)
     unfolding later
-    later_miss e = ap (retained low p) in_front ∙ retained_miss low p at_place _ e
+    later_miss e = ap (retained_by keep) in_front ∙ rw e
 
 -- ## The walk
 
@@ -72,7 +78,7 @@ record Walked (P end to : ℕ) (ns fs : List ℕ) (d : List Page) (x : Pool) : T
   same : length x.numbers ≡ length ns
   same_frames : length x.frames ≡ length fs
 
-module _ (P : ℕ) (low : Bool) (p : ℕ) where
+module _ (P : ℕ) (keep : ℕ → Bool) where
   -- a page that stays, put behind the first `to`
   stay_step : (end i to : ℕ) (ns fs : List ℕ) (d : List Page) (x : Pool) → to ≤ i → i < end → end ≤ length ns → end * P ≤ length fs
       → Walked P end (suc to) (set ns to (get_or ns i 0)) (overwrite (to * P) (take P (drop (i * P) fs)) fs) d x
@@ -97,8 +103,8 @@ module _ (P : ℕ) (low : Bool) (p : ℕ) where
       }
 
   walk_is : (n : ℕ) (ns fs : List ℕ) (end i to : ℕ) → to ≤ i → i + n ≡ end → end ≤ length ns → end * P ≤ length fs
-      → Walked P end to ns fs (later P low p n ns fs i) (walked P low p n ns fs i to)
-  walk_is zero ns fs end i to h k e f = rw (later_none P low p ns fs i) record {
+      → Walked P end to ns fs (later P keep n ns fs i) (retained_front P keep n ns fs i to)
+  walk_is zero ns fs end i to h k e f = rw (later_none P keep ns fs i) record {
     count = omega arith;
     numbers = sym (append-nil (take to ns));
     frames = sym (append-nil (take (to * P) fs));
@@ -112,8 +118,8 @@ module _ (P : ℕ) (low : Bool) (p : ℕ) where
       let si : suc i * P ≡ i * P + P = suc-mul i P in
       let a : i < length ns = omega arith in
       let b : i * P + P ≤ length fs = omega arith in
-      let go : Pool → Pool = λ y. walked P low p n y.numbers y.frames (suc i) y.count in
-      split (stays low p (get_or ns i 0))
+      let go : Pool → Pool = λ y. retained_front P keep n y.numbers y.frames (suc i) y.count in
+      split (keep (get_or ns i 0))
       (λ t.
       let v : ℕ = get_or ns i 0 in
       let part : List ℕ = take P (drop (i * P) fs) in
@@ -122,38 +128,38 @@ module _ (P : ℕ) (low : Bool) (p : ℕ) where
       let fs' : List ℕ = overwrite (to * P) part fs in
       let y : Pool = pool ns' fs' (suc to) in
       let ti : to * P ≤ i * P = mul-le-mul_right P h in
-      let w : Walked P end (suc to) ns' fs' (later P low p n ns' fs' (suc i)) (go y) =
+      let w : Walked P end (suc to) ns' fs' (later P keep n ns' fs' (suc i)) (go y) =
       walk_is n ns' fs' end (suc i) (suc to) (omega arith) (omega arith) (omega (arith, length-set ns to v)) (omega (arith, length-overwrite (to * P) part fs)) in
-      let q : later P low p n ns' fs' (suc i) ≡ later P low p n ns fs (suc i) =
-      later_alike P low p n ns fs ns' fs' (suc i) (drop-set-lt (suc i) ns to v (omega arith)) (drop-overwrite (to * P) (suc i * P) part fs (omega arith)) in
-      let r : go (kept_one P low p ns fs i to) ≡ go y = ap go (kept_moved P low p ns fs i to t ∙ rw (add-one to)) in
-      rw (later_hit P low p n ns fs i a b t) (subst (λ (x : Pool). Walked P end to ns fs (record { number = v; bytes = part } ∷ later P low p n ns fs (suc i)) x) (sym r)
-      (stay_step end i to ns fs (later P low p n ns fs (suc i)) (go y) h (omega arith) e f (rw q at w))))
+      let q : later P keep n ns' fs' (suc i) ≡ later P keep n ns fs (suc i) =
+      later_alike P keep n ns fs ns' fs' (suc i) (drop-set-lt (suc i) ns to v (omega arith)) (drop-overwrite (to * P) (suc i * P) part fs (omega arith)) in
+      let r : go (retained_one P keep ns fs i to) ≡ go y = ap go (one_moved P keep ns fs i to t ∙ rw (add-one to)) in
+      rw (later_hit P keep n ns fs i a b t) (subst (λ (x : Pool). Walked P end to ns fs (record { number = v; bytes = part } ∷ later P keep n ns fs (suc i)) x) (sym r)
+      (stay_step end i to ns fs (later P keep n ns fs (suc i)) (go y) h (omega arith) e f (rw q at w))))
       (λ t.
-      let r : go (kept_one P low p ns fs i to) ≡ go (pool ns fs to) = ap go (kept_gone P low p ns fs i to t) in
-      rw (later_miss P low p n ns fs i a b t) (subst (λ (x : Pool). Walked P end to ns fs (later P low p n ns fs (suc i)) x) (sym r)
+      let r : go (retained_one P keep ns fs i to) ≡ go (pool ns fs to) = ap go (one_gone P keep ns fs i to t) in
+      rw (later_miss P keep n ns fs i a b t) (subst (λ (x : Pool). Walked P end to ns fs (later P keep n ns fs (suc i)) x) (sym r)
       (walk_is n ns fs end (suc i) to (omega arith) (omega arith) e f)))
 
-  walk_most : (n : ℕ) (ns fs : List ℕ) (i to : ℕ) → to ≤ i → (walked P low p n ns fs i to).count ≤ i + n
+  walk_most : (n : ℕ) (ns fs : List ℕ) (i to : ℕ) → to ≤ i → (retained_front P keep n ns fs i to).count ≤ i + n
   walk_most zero ns fs i to h = omega arith
   walk_most (suc n) ns fs i to h =
-      let x : Pool = kept_one P low p ns fs i to in
-      omega (arith, walk_most n x.numbers x.frames (suc i) x.count (omega (arith, kept_count P low p ns fs i to x refl)))
+      let x : Pool = retained_one P keep ns fs i to in
+      omega (arith, walk_most n x.numbers x.frames (suc i) x.count (omega (arith, one_count P keep ns fs i to x refl)))
 
-  pub walk_count : (n : ℕ) (ns fs : List ℕ) (x : Pool) → x ≡ walked P low p n ns fs 0 0 → x.count ≤ n
-  walk_count n ns fs x e = omega (arith, walk_most n ns fs 0 0 (omega arith), ap (λ (y : Pool). y.count) e)
+  pub front_count : (n : ℕ) (ns fs : List ℕ) (x : Pool) → x ≡ retained_front P keep n ns fs 0 0 → x.count ≤ n
+  front_count n ns fs x e = omega (arith, walk_most n ns fs 0 0 (omega arith), ap (λ (y : Pool). y.count) e)
 
   -- what is left over becomes zeros
-  pub walk_relaid : (n : ℕ) (ns fs : List ℕ) (x : Pool) → n ≤ length ns → n * P ≤ length fs → x ≡ walked P low p n ns fs 0 0
+  pub front_relaid : (n : ℕ) (ns fs : List ℕ) (x : Pool) → n ≤ length ns → n * P ≤ length fs → x ≡ retained_front P keep n ns fs 0 0
       → pool (overwrite x.count (zeros (n - x.count)) x.numbers) (overwrite (x.count * P) (zeros (n * P - x.count * P)) x.frames) x.count
-      ≡ relaid P n (retained low p (pages_in P (take n ns) fs)) ns fs
+      ≡ relaid P n (retained_by keep (pages_in P (take n ns) fs)) ns fs
   unfolding relaid later
-  walk_relaid n ns fs x h k e =
-      let d : List Page = retained low p (pages_in P (take n ns) fs) in
+  front_relaid n ns fs x h k e =
+      let d : List Page = retained_by keep (pages_in P (take n ns) fs) in
       let z : 0 * P ≡ 0 = zero-mul P in
-      let s : later P low p n ns fs 0 ≡ d = rw z in
+      let s : later P keep n ns fs 0 ≡ d = rw z in
       let w : Walked P n 0 ns fs d x = subst (λ (y : Pool). Walked P n 0 ns fs d y) (sym e) (rw s at (walk_is n ns fs n 0 0 (omega arith) (omega arith) h k)) in
-      let c : x.count ≤ n = walk_count n ns fs x e in
+      let c : x.count ≤ n = front_count n ns fs x e in
       let f : take (x.count * P) x.frames ≡ flat d = rw z at w.frames in
       let ns' : overwrite x.count (zeros (n - x.count)) x.numbers ≡ refill n (page_numbers d) ns =
       zeros_refill x.count n (page_numbers d) ns x.numbers c (omega (arith, w.same)) w.numbers w.rest in
@@ -161,3 +167,14 @@ module _ (P : ℕ) (low : Bool) (p : ℕ) where
       zeros_refill (x.count * P) (n * P) (flat d) fs x.frames (mul-le-mul_right P c) (omega (arith, w.same_frames)) f w.rest_frames in
       let many : x.count ≡ length d = w.count ∙ zero-add (length d) in
       λ j. pool (ns' j) (fs' j) (many j)
+
+-- ## The same of the pages below p, or of all but p
+
+module _ (P : ℕ) (low : Bool) (p : ℕ) (n : ℕ) (ns fs : List ℕ) (x : Pool) where
+  pub walk_count : x ≡ walked P low p n ns fs 0 0 → x.count ≤ n
+  walk_count e = front_count P (stays low p) n ns fs x e
+
+  pub walk_relaid : n ≤ length ns → n * P ≤ length fs → x ≡ walked P low p n ns fs 0 0
+      → pool (overwrite x.count (zeros (n - x.count)) x.numbers) (overwrite (x.count * P) (zeros (n * P - x.count * P)) x.frames) x.count
+      ≡ relaid P n (retained low p (pages_in P (take n ns) fs)) ns fs
+  walk_relaid h k e = rw (← retained_stays low p (pages_in P (take n ns) fs)) (front_relaid P (stays low p) n ns fs x h k e)

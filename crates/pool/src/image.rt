@@ -1,5 +1,5 @@
 // The image's pages, in the lent memory.
-ghost use Rattle.std.specs.Prelude.{◌≡◌, ◌+◌, min, length};
+ghost use Rattle.std.specs.Prelude.{◌≡◌, ◌+◌, ◌-◌, min, length};
 ghost use Rattle.update.specs.Image.{image_part};
 ghost use Rattle.pool.specs.Stored.{stored as stored_bytes};
 
@@ -10,6 +10,13 @@ pub fn reach(a: u64, b: u64, most: usize) -> usize
     ensures { result ≡ min (a + b) most }
 {
     a.saturating_add(b).min(most as u64) as usize
+}
+
+// How many of `n` bytes from `offset` on lie below `size`.
+pub fn below_size(n: usize, size: u64, offset: u64) -> usize
+    ensures { result ≡ min n (size - offset) }
+{
+    size.saturating_sub(offset).min(n as u64) as usize
 }
 
 // The image's bytes from `offset` on, as memory holds them at base + offset, become all of `dst`: past the size, and past the end of memory, zeros.

@@ -1,8 +1,8 @@
 // A pool of pages: frames of 16,384 bytes, one behind the other, and a list of their page numbers.
-ghost use Rattle.std.specs.Prelude.{◌≡◌, ◌||◌, eqb, false, fold, position, ◌*◌, ◌+◌, ◌≤◌, ◌<◌, length, take};
+ghost use Rattle.std.specs.Prelude.{◌≡◌, ◌||◌, ℕ, Bool, eqb, false, fold, position, ◌*◌, ◌+◌, ◌≤◌, ◌<◌, length, take};
 ghost use Rattle.update.specs.Pages.{pages_in, keep_below};
-ghost use Rattle.update.specs.Frames.{pool, relaid, retained};
-ghost use Rattle.pool.specs.Pool.{place_found, stays, are_below, page_of, kept_one, walked};
+ghost use Rattle.update.specs.Frames.{pool, relaid};
+ghost use Rattle.pool.specs.Pool.{place_found, PoolFits, Answers, retained_by, retained_one, retained_front};
 
 use config::PAGE_LEN;
 
@@ -10,7 +10,7 @@ use config::PAGE_LEN;
 const BLOCK: usize = 8;
 
 // Whether the page is one of the block's numbers. The fold has no way out, so that the compiler compares several at once.
-fn is_among(block: &[u64], page: u64) -> bool
+fn is_among(block: &[u64; BLOCK], page: u64) -> bool
     ensures { result ≡ fold (λ found n. found || eqb n page) false block.now }
 {
     block
@@ -29,44 +29,31 @@ fn first(numbers: &[u64], page: u64) -> Option<usize>
 pub fn find(numbers: &[u64], page: u64) -> Option<usize>
     ensures { result ≡ place_found numbers.now page }
 {
-    let mut rest = numbers;
-    while let Some((block, later)) = rest.split_first_chunk::<BLOCK>() {
-        if is_among(block, page) {
-            break;
-        }
-        rest = later;
-    }
-    let passed = numbers.len() - rest.len();
-    let at = first(rest, page)?;
+    let (blocks, _) = numbers.as_chunks::<BLOCK>();
+    let whole = blocks
+        .iter()
+        .position(|block| is_among(block, page))
+        .unwrap_or(blocks.len());
+    let passed = whole * BLOCK;
+    let at = first(&numbers[passed..], page)?;
     Some(passed + at)
 }
 
-// Which pages stay: those below a page, or all but one.
-#[derive(Clone, Copy)]
-pub(crate) enum Kept {
-    Below(u64),
-    AllBut(u64),
-}
-
-impl Kept {
-    // Whether the page of this number stays.
-    fn has(self, number: u64) -> bool
-        ensures { result ≡ stays (are_below self) (page_of self) number }
-    {
-        match self {
-            Kept::Below(page) => number < page,
-            Kept::AllBut(page) => number != page,
-        }
-    }
-}
-
 // The page at place `i` moves down to `to`, if it stays: how many have stayed then.
-fn retain_one(numbers: &mut [u64], frames: &mut [u8], i: usize, to: usize, kept: Kept) -> usize
-    requires { (to ≤ i) × (i < length numbers.old) × (i * 16384 + 16384 ≤ length frames.old) }
-    ensures { pool numbers.new frames.new result ≡ kept_one 16384 (are_below kept) (page_of kept) numbers.old frames.old i to }
+fn retain_one<F: Fn(u64) -> bool>(
+    numbers: &mut [u64],
+    frames: &mut [u8],
+    i: usize,
+    to: usize,
+    keep: &F,
+) -> usize
+    requires callable { F.IsAlwaysCallable keep.now }
+    requires places { (to ≤ i) × (i < length numbers.old) × (i * 16384 + 16384 ≤ length frames.old) }
+    ensures few { result ≤ to + 1 }
+    ensures moved { (p : ℕ → Bool) → Answers (F.post keep.now) p → pool numbers.new frames.new result ≡ retained_one 16384 p numbers.old frames.old i to }
 {
     let number = numbers[i];
-    if !kept.has(number) {
+    if !keep(number) {
         return to;
     }
     if to < i {
@@ -78,23 +65,39 @@ fn retain_one(numbers: &mut [u64], frames: &mut [u8], i: usize, to: usize, kept:
 }
 
 // The pages that stay move to the front: how many they are.
-fn retain_front(numbers: &mut [u64], frames: &mut [u8], count: usize, kept: Kept) -> usize
-    requires { (count ≤ length numbers.old) × (count * 16384 ≤ length frames.old) }
-    ensures { pool numbers.new frames.new result ≡ walked 16384 (are_below kept) (page_of kept) count numbers.old frames.old 0 0 }
+// By places, and not by an iterator: pages move within the slices that are walked.
+fn retain_front<F: Fn(u64) -> bool>(
+    numbers: &mut [u64],
+    frames: &mut [u8],
+    count: usize,
+    keep: &F,
+) -> usize
+    requires callable { F.IsAlwaysCallable keep.now }
+    requires room { PoolFits 16384 count numbers.old frames.old }
+    ensures few { result ≤ count }
+    ensures moved { (p : ℕ → Bool) → Answers (F.post keep.now) p
+        → pool numbers.new frames.new result ≡ retained_front 16384 p count numbers.old frames.old 0 0 }
 {
     let mut to = 0;
     for i in 0..count {
-        to = retain_one(numbers, frames, i, to, kept);
+        to = retain_one(numbers, frames, i, to, keep);
     }
     to
 }
 
-// Of the first `count` pages those that stay move to the front, and the places left over become zeros: how many stay.
-pub(crate) fn retain(numbers: &mut [u64], frames: &mut [u8], count: usize, kept: Kept) -> usize
-    requires { (count ≤ length numbers.old) × (count * 16384 ≤ length frames.old) }
-    ensures { pool numbers.new frames.new result ≡ relaid 16384 count (retained (are_below kept) (page_of kept) (pages_in 16384 (take count numbers.old) frames.old)) numbers.old frames.old }
+// Of the first `count` pages those that `keep` lets stay move to the front, and the places left over become zeros: how many stay.
+pub fn retain<F: Fn(u64) -> bool>(
+    numbers: &mut [u64],
+    frames: &mut [u8],
+    count: usize,
+    keep: F,
+) -> usize
+    requires callable { F.IsAlwaysCallable keep }
+    requires room { PoolFits 16384 count numbers.old frames.old }
+    ensures { (p : ℕ → Bool) → Answers (F.post keep) p
+        → pool numbers.new frames.new result ≡ relaid 16384 count (retained_by p (pages_in 16384 (take count numbers.old) frames.old)) numbers.old frames.old }
 {
-    let many = retain_front(numbers, frames, count, kept);
+    let many = retain_front(numbers, frames, count, &keep);
     memory::fill(&mut numbers[many..count], 0);
     let from = many * PAGE_LEN;
     let end = count * PAGE_LEN;
@@ -104,8 +107,9 @@ pub(crate) fn retain(numbers: &mut [u64], frames: &mut [u8], count: usize, kept:
 
 // Of the first `count` pages those below `page` move to the front, and the places left over become zeros: how many stay.
 pub fn retain_below(numbers: &mut [u64], frames: &mut [u8], count: usize, page: u64) -> usize
-    requires { (count ≤ length numbers.old) × (count * 16384 ≤ length frames.old) }
-    ensures { pool numbers.new frames.new result ≡ relaid 16384 count (keep_below page (pages_in 16384 (take count numbers.old) frames.old)) numbers.old frames.old }
+    requires { PoolFits 16384 count numbers.old frames.old }
+    ensures { pool numbers.new frames.new result
+        ≡ relaid 16384 count (keep_below page (pages_in 16384 (take count numbers.old) frames.old)) numbers.old frames.old }
 {
-    retain(numbers, frames, count, Kept::Below(page))
+    retain(numbers, frames, count, |number| number < page)
 }

@@ -1,5 +1,5 @@
 // The file as it is seen, of the update if one is open, else of the image: its size, its bytes, a dirty page.
-// The lent slices are parameters of their own, as `update::Stored` says.
+// The lent slices are parameters of their own, as C and the plain file speak of each; a read hands frames and their numbers on as `Frames`.
 #![tactic(auto)]
 
 ghost use Rattle.std.specs.Prelude.{◌≡◌};
@@ -13,7 +13,7 @@ ghost use Rattle.reading.specs.Views.{frames_short};
 
 use config::Refusal;
 use store::State;
-use update::Stored;
+use update::{Frames, Stored};
 
 // Of the update if one is open, else of the image.
 pub fn file_size(s: &State) -> u64
@@ -52,16 +52,11 @@ pub fn read_at(
     let image = image::image_of(s.block);
     let stored = Stored { image, mem };
     if s.updating {
-        return overlay::read_at(
-            &mut s.overlay,
-            stored,
-            frames,
+        let frames = Frames {
+            bytes: frames,
             numbers,
-            clean,
-            record,
-            offset,
-            dst,
-        );
+        };
+        return overlay::read_at(&mut s.overlay, stored, frames, clean, record, offset, dst);
     }
     image::read(dst, stored, offset);
     Ok(is_full(s.block.db_size, offset, dst.len()))
@@ -74,7 +69,7 @@ pub fn frames_are_short(s: &State, frames: &[u8], numbers: &[u64]) -> bool
     s.updating && touch::frame_count(frames, numbers) < s.overlay.dirty
 }
 
-// "is shown to callers as the part of the lent frames that holds it, empty if it is not dirty"
+// "is shown to callers as the part of the lent frames that holds it, empty if it is not dirty": so no `Option`.
 pub fn dirty_page<'a>(s: &State, frames: &'a [u8], numbers: &[u64], page: u64) -> &'a [u8]
     ensures { result.now ≡ dirty_in 16384 65536 8 1024 18446744073709551615 real_codec (mode_of s.now) frames.now numbers.now page }
 {

@@ -1,5 +1,6 @@
 -- The laws of a list of runs that is asked for one run after another: what is left of it from run i on.
-use Rattle.std.specs.Prelude.{ℕ, zero, suc, ◌+◌, ◌-◌, ◌*◌, ◌/◌, ◌≤◌, ◌<◌, ◌≡◌, refl, true, false, List, [], ◌∷◌, ◌++◌, length, get_or, drop}
+use Rattle.std.specs.Prelude.{ℕ, zero, suc, ◌+◌, ◌-◌, ◌*◌, ◌/◌, ◌≤◌, ◌<◌, ◌≡◌, refl, Bool, true, false, ◌||◌, List, [], ◌∷◌, ◌++◌, length, get_or, drop}
+use Rattle.std.specs.List.{list_any}
 use Rattle.std.proofs.Common.{sym, ap, ◌∙◌, append-nil, drop-cons, drop-drop, get_or-drop, drop_of_length-le, add-one, arith, lt-ltb, le-ltb}
 use Rattle.std.proofs.lemmas.Bool.{lt-leb, le-leb}
 use Rattle.std.proofs.Math.Bool.{and-false}
@@ -24,6 +25,11 @@ module _ (x : ZeroExtent) (p : ℕ) where
   pub page-behind : x.end ≤ p → within x p ≡ false
   unfolding within
   page-behind h = rw (le-ltb _ _ h) (and-false _)
+
+-- a list has the page if one of its runs has it
+pub any_has : (l : List ZeroExtent) (p : ℕ) → list_any (λ x. within x p) l ≡ covers l p
+any_has [] p = refl
+any_has (x ∷ l) p = ap (λ (b : Bool). within x p || b) (any_has l p)
 
 -- none are left
 module _ (l : List ZeroExtent) (i : ℕ) (h : length l ≤ i) where

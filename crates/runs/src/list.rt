@@ -1,5 +1,6 @@
 // Lists of runs, whatever holds them.
-ghost use Rattle.std.specs.Prelude.{◌≡◌, ◌<◌, List, length, get_or};
+ghost use Rattle.std.specs.Iterator.{YieldsFirst, item_count};
+ghost use Rattle.std.specs.Prelude.{◌≡◌, ◌<◌, List, length, get_or, drop};
 ghost use Rattle.meta.specs.declared.ZeroExtent.{ZeroExtent};
 ghost use Rattle.meta.specs.Runs.{run, normalized};
 ghost use Rattle.runs.specs.Sets.{covers};
@@ -16,17 +17,39 @@ pub trait RunList: Copy {
     fn get(self, i: usize) -> ZeroExtent
         requires { i < length (runs self) }
         ensures { result ≡ get_or (runs self) i (run 0 0) };
+
+    // The runs, one after another.
+    final fn iter(self) -> Runs<Self>
+        ensures { drop result.next (runs result.list) ≡ runs self }
+    {
+        Runs {
+            list: self,
+            next: 0,
+        }
+    }
 }
 
-impl RunList for &[ZeroExtent] {
-    ghost runs = { λ l. l.now };
+// The runs of a list that are left, from run `next` on.
+#[derive(Clone, Copy)]
+pub struct Runs<L> {
+    pub list: L,
+    pub next: usize,
+}
 
-    fn count(self) -> usize {
-        self.len()
-    }
+impl<L: RunList> Iterator for Runs<L> {
+    type Item = ZeroExtent;
 
-    fn get(self, i: usize) -> ZeroExtent {
-        self[i]
+    ghost next_gives = { YieldsFirst (λ it. drop it.next (L.runs it.list)) };
+
+    ghost remaining = { item_count (λ it. drop it.next (L.runs it.list)) };
+
+    fn next(&mut self) -> Option<ZeroExtent> {
+        if self.list.count() <= self.next {
+            return None;
+        }
+        let x = self.list.get(self.next);
+        self.next += 1;
+        Some(x)
     }
 }
 
@@ -34,16 +57,10 @@ impl RunList for &[ZeroExtent] {
 pub fn covers_page<L: RunList>(list: L, page: u64) -> bool
     ensures { result ≡ covers (L.runs list) page }
 {
-    for i in 0..list.count() {
-        let x = list.get(i);
-        if x.start <= page && page < x.end {
-            return true;
-        }
-    }
-    false
+    list.iter().any(|x| x.start <= page && page < x.end)
 }
 
-// Whether the runs are normalized.
+// Whether the runs are normalized. By number: one pass asks each run about itself and the next one, where `all` and `is_sorted_by` would be two passes.
 pub fn is_normalized<L: RunList>(list: L) -> bool
     ensures { result ≡ normalized (L.runs list) }
 {

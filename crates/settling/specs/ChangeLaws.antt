@@ -38,6 +38,7 @@ use Rattle.store.specs.Calls.{write, truncate, commit, Lent, out, Mode, idle, up
 use Rattle.store.specs.Plan.{required}
 use Rattle.store.specs.Store.{budget_of, ended, over, unchanged, planned_runs, publish, commit_over, direct, change, in_update, working, answer_of, swept, refuse, store, act, write_pages}
 use Rattle.store.specs.Store.{settle as settlePlan}
+use Rattle.commit.specs.Held.{Held}
 use Rattle.transfer.specs.OnMemory.{lent}
 use Rattle.lending.specs.Lending.{calls}
 use Rattle.settling.specs.Changing.{verdict_answer, overlay_now, ending, settled}
@@ -110,7 +111,7 @@ module _ (v : Overlay) (b : Buffers) (h : short_buffers 16384 8 v b ≡ false) w
 
     -- what a commit of it asks of the slices
     pub room_left : (w : List ℕ) → (1025 + 2 * frame_count 16384 b) * 2 ≤ length w
-        → (v'.dirty ≤ length b'.numbers) × (v'.dirty * 16384 ≤ length b'.frames) × (v'.recorded * 2 ≤ length b'.recs) × ((1025 + v'.dirty * 2) * 2 ≤ length w)
+        → Held v' b'.frames b'.numbers b'.recs w
     room_left w g =
         let f : Fits 16384 8 v' b' = step_fits 16384 8 (omega arith) U b held n t busy r v' b' a from_settled in
         let k : frame_count 16384 b' ≡ frame_count 16384 b = step_frames 16384 8 (omega arith) U b held n t busy r v' b' a from_settled in
@@ -234,7 +235,7 @@ module _ (s : State) (m w : List ℕ) (b : Buffers) (h : short 16384 65536 8 102
       write_fit : Fit 16384 8 (settle 16384 8 v) b (left (writing x))
       write_fit = write_room 16384 most F R K byte o bs x (room v b long_buffers)
 
-      pub write_leaves : (v'.dirty ≤ length b'.numbers) × (v'.dirty * 16384 ≤ length b'.frames) × (v'.recorded * 2 ≤ length b'.recs) × ((1025 + v'.dirty * 2) * 2 ≤ length w)
+      pub write_leaves : Held v' b'.frames b'.numbers b'.recs w
       write_leaves = room_left v b long_buffers (max v.dirty 0) (writing x) (omega (arith, held_dirty)) write_fit v' b' a written w long_work
 
       pub write_is : settled s (lent m b' w) v' a (mode_of s) ≡ calls s (lent m b w) (write o bs)
@@ -264,7 +265,7 @@ module _ (s : State) (m w : List ℕ) (b : Buffers) (h : short 16384 65536 8 102
       cut_busy : max v.dirty (cut_reach x) ≤ F
       cut_busy = omega (arith, held_dirty, (try_grow_lem 16384 most F R K byte n x (room v b long_buffers)).dirty)
 
-      pub truncate_leaves : (v'.dirty ≤ length b'.numbers) × (v'.dirty * 16384 ≤ length b'.frames) × (v'.recorded * 2 ≤ length b'.recs) × ((1025 + v'.dirty * 2) * 2 ≤ length w)
+      pub truncate_leaves : Held v' b'.frames b'.numbers b'.recs w
       truncate_leaves = room_left v b long_buffers (max v.dirty (cut_reach x)) (cutting x) cut_busy cut_fit v' b' a cut w long_work
 
       pub truncate_is : settled s (lent m b' w) v' a (mode_of s) ≡ calls s (lent m b w) (truncate n)

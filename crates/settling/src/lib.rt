@@ -2,10 +2,11 @@
 // The lent slices are parameters of their own, as `update::Stored` says.
 #![tactic(auto)]
 
-ghost use Rattle.std.specs.Prelude.{◌≡◌, [], ◌+◌, ◌*◌, ◌≤◌, length};
+ghost use Rattle.std.specs.Prelude.{◌≡◌, []};
 ghost use Rattle.update.specs.Laid.{bufs};
 ghost use Rattle.store.specs.Answers.{done};
 ghost use Rattle.store.specs.Calls.{out, mode_of};
+ghost use Rattle.commit.specs.Held.{Held};
 ghost use Rattle.transfer.specs.OnMemory.{lent};
 ghost use Rattle.settling.specs.Changing.{overlay_now, settled};
 
@@ -23,7 +24,8 @@ pub fn overlay_of(s: &State) -> Overlay
     Overlay::new(s.block.db_size, lending::budget_of(false, 0, 0))
 }
 
-// What becomes of a change that left the overlay `o`: in an update it stays in the buffers; a direct one is committed, or refused it leaves memory unchanged and zeros in the buffers.
+// What becomes of a change that left the overlay `o`: in an update it stays in the buffers; a direct one is committed, or refused it leaves memory unchanged
+// and zeros in the buffers.
 pub fn settle(
     s: &mut State,
     mem: &mut [u8],
@@ -35,7 +37,7 @@ pub fn settle(
     o: &Overlay,
     verdict: Result<(), Refusal>,
 ) -> Result<(), Refusal>
-    requires { (o.now.dirty ≤ length numbers.old) × (o.now.dirty * 16384 ≤ length frames.old) × (o.now.recorded * 2 ≤ length «record».old) × ((1025 + o.now.dirty * 2) * 2 ≤ length work.old) }
+    requires { Held o.now frames.old numbers.old «record».old work.old }
     ensures { out s.new (lent mem.new (bufs frames.new numbers.new clean.new «record».new) work.new) (done result) []
         ≡ settled s.old (lent mem.old (bufs frames.old numbers.old clean.old «record».old) work.old) o.now verdict (mode_of s.old) }
 {

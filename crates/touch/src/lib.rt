@@ -15,6 +15,7 @@ use config::{PAGE_LEN, Refusal};
 use update::{Overlay, Stored};
 
 // The frames lent: 16,384 bytes with one entry of the page numbers, the smaller count deciding.
+// Two slices, and no `update::Frames`: `take_frame` asks it of numbers that it holds to change.
 pub fn frame_count(frames: &[u8], numbers: &[u64]) -> usize
     ensures { result ≡ min (length frames.now / 16384) (length numbers.now) }
 {
@@ -30,7 +31,8 @@ fn take_frame(
 ) -> Result<usize, Refusal>
     requires { o.old.dirty ≤ min (length frames.now / 16384) (length numbers.old) }
     ensures answer { admission o.new.budget (verdict result) ≡ admitted 16384 (min (length frames.now / 16384) (length numbers.old)) o.old.dirty o.old.budget }
-    ensures ok { IfOk result (λ at. (at ≡ o.old.dirty) × (o.new ≡ moved o.old (o.old.dirty + 1) o.old.cache o.new.budget) × (numbers.new ≡ set numbers.old o.old.dirty page)) }
+    ensures ok { IfOk result (λ at. (at ≡ o.old.dirty)
+        × (o.new ≡ moved o.old (o.old.dirty + 1) o.old.cache o.new.budget) × (numbers.new ≡ set numbers.old o.old.dirty page)) }
     ensures err { OnErr result ((o.new ≡ moved o.old o.old.dirty o.old.cache o.new.budget) × (numbers.new ≡ numbers.old)) }
 {
     let at = o.dirty;
@@ -41,6 +43,7 @@ fn take_frame(
 }
 
 // The page is made dirty: its place among the dirty pages, or 30 or 33.
+// Public, though it is called here alone, as what it promises may not go.
 pub fn load_dirty_page(
     o: &mut Overlay,
     stored: Stored<'_>,
@@ -60,7 +63,7 @@ pub fn load_dirty_page(
         return Ok(at);
     }
     let at = take_frame(o, frames, numbers, page)?;
-    let recorded = o.recorded;
+    let recorded = runs::first(record, o.recorded);
     let from = at * PAGE_LEN;
     let end = from + PAGE_LEN;
     pool::load(
@@ -68,7 +71,6 @@ pub fn load_dirty_page(
         clean,
         &mut o.cache,
         stored,
-        record,
         recorded,
         page,
     );
@@ -87,7 +89,8 @@ pub fn zero_part(
     from: usize,
     to: usize,
 ) -> Result<(), Refusal>
-    requires { Fits 16384 8 o.old (bufs frames.old numbers.old clean.old «record».now) × ((page * 16384 ≤ 18446744073709551615) × ((from ≤ to) × (to ≤ 16384))) }
+    requires { Fits 16384 8 o.old (bufs frames.old numbers.old clean.old «record».now)
+        × ((page * 16384 ≤ 18446744073709551615) × ((from ≤ to) × (to ≤ 16384))) }
     ensures { laid o.new (bufs frames.new numbers.new clean.new «record».now) result
         ≡ touched 16384 8 18446744073709551615 stored.entry.image stored.entry.mem.now o.old (bufs frames.old numbers.old clean.old «record».now)
         true (blank 16384 (page * 16384 + from) (page * 16384 + to)) page }

@@ -1,4 +1,5 @@
 // Exports and checksums of an image, and how every call begins and ends that is lent memory alone.
+// State and memory are two parameters: C lends memory anew at each call, and no two `&mut` behind a `&mut` may be lent at once, as `update::Stored` says.
 #![tactic(auto)]
 
 pub mod step;

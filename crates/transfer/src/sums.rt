@@ -1,5 +1,5 @@
 // Export, the checksum, and its refresh.
-ghost use Rattle.std.specs.Prelude.{◌≡◌, [], ◌-◌, min, max, ◌+◌};
+ghost use Rattle.std.specs.Prelude.{◌≡◌, [], min, max, ◌+◌};
 ghost use Rattle.store.specs.Answers.{answered, Exported, Checksum, Refreshed};
 ghost use Rattle.store.specs.Calls.{export, checksum, refresh, refresh_step};
 ghost use Rattle.store.specs.Codec.{real_codec};
@@ -13,19 +13,12 @@ use meta::{FNV_OFFSET_BASIS, Superblock};
 use store::{ChecksumRefresh, State};
 use update::Stored;
 
-// How many of `n` bytes from `offset` on lie below `size`.
-fn below_size(n: usize, size: u64, offset: u64) -> usize
-    ensures { result ≡ min n (size - offset) }
-{
-    size.saturating_sub(offset).min(n as u64) as usize
-}
-
 // "fills the lent buffer up to its length or the size, answers how many bytes it wrote (0 from the size on), and leaves the rest of the buffer"
 pub fn export_chunk(s: &State, mem: &[u8], offset: u64, dst: &mut [u8]) -> Result<u64, Refusal>
     ensures { OnMemory s.now mem.now (export offset dst.old) s.now mem.now (answered Exported result) dst.new }
 {
     step::admit(s, mem)?;
-    let n = below_size(dst.len(), s.block.db_size, offset);
+    let n = pool::below_size(dst.len(), s.block.db_size, offset);
     let image = image::image_of(s.block);
     image::read(&mut dst[..n], Stored { image, mem }, offset);
     Ok(n as u64)

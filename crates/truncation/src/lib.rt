@@ -2,11 +2,13 @@
 // The lent slices are parameters of their own, as `update::Stored` says.
 #![tactic(auto)]
 
-ghost use Rattle.std.specs.Prelude.{◌≡◌, ◌*◌, ◌≤◌, length};
-ghost use Rattle.update.specs.Buffers.{settled};
+ghost use Rattle.std.specs.Prelude.{◌≡◌};
 ghost use Rattle.update.specs.Laid.{bufs, laid, Fits, dropped, below_count, grown_to, chopped, tailed, cut_to, resized};
+ghost use Rattle.pool.specs.Pool.{PoolFits};
+ghost use Rattle.pool.specs.Cache.{CacheFits};
 
 use config::{PAGE_LEN, Refusal};
+use meta::ZeroExtent;
 use update::{Overlay, Stored};
 
 // Growth, if the size rises. Refused, the size stays.
@@ -43,7 +45,7 @@ fn drop_pages(
     count: u64,
     size: u64,
 )
-    requires { (o.old.dirty ≤ length numbers.old) × (o.old.dirty * 16384 ≤ length frames.old) × (131072 ≤ length clean.old) × (o.old.cache ≡ settled 16384 8 o.old.cache) }
+    requires { PoolFits 16384 o.old.dirty numbers.old frames.old × CacheFits 16384 8 o.old.cache clean.old }
     ensures { dropped o.new frames.new numbers.new clean.new ≡ below_count 16384 8 o.old frames.old numbers.old clean.old count size }
 {
     o.dirty = pool::retain_below(numbers, frames, o.dirty, count);
@@ -66,7 +68,11 @@ fn chop(
 {
     let last = config::page_count_for_size(size);
     let before = config::page_count_for_size(o.size);
-    o.recorded = pool::push_run(record, o.recorded, last.0, before.0)?;
+    let dropped = ZeroExtent {
+        start: last.0,
+        end: before.0,
+    };
+    o.recorded = pool::push_run(record, o.recorded, dropped)?;
     drop_pages(o, frames, numbers, clean, last.0, size);
     Ok(())
 }

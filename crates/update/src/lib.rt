@@ -14,12 +14,19 @@ pub struct Image {
 }
 
 // The image, and the memory that it lies in.
-// The frames, their numbers, the clean frames and the record stay parameters of their own: of a struct of `&mut` slices behind a `&mut` no two may be lent at once
+// Slices that are lent to be changed stay parameters of their own: of a struct of `&mut` slices behind a `&mut` no two may be lent at once
 // (tried), and one passed by value is taken apart and made anew at each call (tried), which is no plainer.
 #[derive(Clone, Copy)]
 pub struct Stored<'a> {
     pub image: Image,
     pub mem: &'a [u8],
+}
+
+// Frames of 16,384 bytes, one behind the other, and the numbers of their pages, lent to be read.
+#[derive(Clone, Copy)]
+pub struct Frames<'a> {
+    pub bytes: &'a [u8],
+    pub numbers: &'a [u64],
 }
 
 // "The cache's page numbers are an array inside its struct": the oldest inserted first. Numbers from `count` on are 0.
@@ -83,6 +90,7 @@ impl Overlay {
         }
     }
 
+    // The original's `Overlay` has `size` and `dirty_pages`. Nothing here calls them, as the store reads the fields: they stand for callers.
     pub fn size(self) -> u64
         ensures { result ≡ self.size }
     {

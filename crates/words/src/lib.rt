@@ -23,15 +23,23 @@ pub fn write_word(bytes: &mut [u8], at: usize, x: u64)
     bytes[at..at + 8].copy_from_slice(&x.to_le_bytes());
 }
 
+// The numbers from a place on become all of `numbers`. By index, here and below: of what a `zip` of `iter_mut` or `as_chunks_mut` lends a proof knows the length alone.
+pub fn read_into(numbers: &mut [u64], bytes: &[u8], at: usize)
+    requires { at + length numbers.old * 8 ≤ length bytes.now }
+    ensures { numbers.new ≡ words_in (length numbers.old) (drop at bytes.now) }
+{
+    for (i, number) in numbers.iter_mut().enumerate() {
+        *number = read_word(bytes, at + i * 8);
+    }
+}
+
 // The `N` numbers from a place on.
 pub fn read_words<const N: usize>(bytes: &[u8], at: usize) -> [u64; N]
     requires { at + N * 8 ≤ length bytes.now }
     ensures { result ≡ words_in N (drop at bytes.now) }
 {
     let mut numbers = [0; N];
-    for (i, number) in numbers.iter_mut().enumerate() {
-        *number = read_word(bytes, at + i * 8);
-    }
+    read_into(&mut numbers, bytes, at);
     numbers
 }
 

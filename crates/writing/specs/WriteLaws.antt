@@ -152,7 +152,7 @@ module _ (P C : ℕ) (pos : 0 < P) (v : Overlay) (l : Buffers) (fits : Fits P C 
       let z : span P (o + k) (length bs - k) ≡ 0 = ap (span P (o + k)) {x = length bs - k} {y = 0} (omega arith) ∙ span_none P pos (o + k) in
       rw z (sym (accepted_same P C pos v l fits 0))
 
-  -- ## As the code cuts the bytes
+  -- ## Of what is left of the bytes, cut where a page ends
 
   -- what is left to write, n bytes from byte `at` of the file on
   abbrev pub ahead : ℕ → ℕ → Overlay → Buffers → Laid

@@ -1,5 +1,6 @@
 // Writes to the file of an update.
 // The lent slices are parameters of their own, as `update::Stored` says.
+// `offset` and `bytes` are the call's arguments, as 01's write has them, and that their end is a number is tested once, in `overlay::write_at`.
 #![tactic(auto)]
 
 ghost use Rattle.std.specs.Prelude.{◌≡◌, true, ◌+◌, ◌/◌, ◌≤◌, length};
@@ -8,6 +9,7 @@ ghost use Rattle.update.specs.Update.{whole_page, copy};
 ghost use Rattle.update.specs.Laid.{bufs, laid, Fits, touched_all, puts, wrote};
 
 use config::{PAGE_LEN, Refusal};
+use pool::Parts;
 use update::{Overlay, Stored};
 
 // The pages that the write has a byte in, from the first, each loaded.
@@ -23,16 +25,16 @@ fn write_pages(
 ) -> Result<(), Refusal>
     requires { Fits 16384 8 o.old (bufs frames.old numbers.old clean.old «record».now) × (offset + length bytes.now ≤ 18446744073709551615) }
     ensures { laid o.new (bufs frames.new numbers.new clean.new «record».now) result
-        ≡ touched_all 16384 8 18446744073709551615 stored.entry.image stored.entry.mem.now o.old (bufs frames.old numbers.old clean.old «record».now) true (copy 16384 offset bytes.now) (offset / 16384) (span 16384 offset (length bytes.now)) }
+        ≡ touched_all 16384 8 18446744073709551615 stored.entry.image stored.entry.mem.now o.old (bufs frames.old numbers.old clean.old «record».now)
+        true (copy 16384 offset bytes.now) (offset / 16384) (span 16384 offset (length bytes.now)) }
 {
-    let mut at = offset;
-    let mut rest = bytes;
-    while !rest.is_empty() {
-        let within = config::page_offset(at);
-        let (part, after) = rest.split_at(rest.len().min(PAGE_LEN - within));
+    let end = offset + (bytes.len() as u64);
+    // Counted beside `at`, as `image::read_pages` has it.
+    let mut done = 0;
+    for (at, n) in (Parts { at: offset, end }) {
+        let part = &bytes[done..done + n];
         touch::write_part(o, stored, frames, numbers, clean, record, at, part)?;
-        at += part.len() as u64;
-        rest = after;
+        done += n;
     }
     Ok(())
 }

@@ -1,5 +1,5 @@
 -- What the C functions answer, and what the lent slices hold at the end.
-use Rattle.std.specs.Prelude.{◌≡◌, ℕ, ◌+◌, ◌*◌, ◌/◌, ◌≤◌, Bool, true, false, List, [], ◌∷◌, ltb, length, take, Ok, Err}
+use Rattle.std.specs.Prelude.{◌≡◌, ℕ, ◌+◌, ◌-◌, ◌*◌, ◌/◌, ◌≤◌, Bool, true, false, List, [], ◌∷◌, ◌++◌, ltb, length, take, drop, Ok, Err}
 use Rattle.std.proofs.Common.{sym, ap, ◌∙◌, arith, le-ltb, take_all, length-take}
 use Rattle.config.specs.Refusals.{numbers_of as numbersOfRefusal}
 use Rattle.memory.specs.Growth.{Growth}
@@ -10,6 +10,7 @@ use Rattle.meta.specs.declared.superblock.Superblock.{Superblock}
 use Rattle.meta.specs.Block.{numbers_of, of_numbers, fresh, store_in}
 use Rattle.meta_load.specs.Load.{load}
 use Rattle.runs.specs.Flat.{runs_in}
+use Rattle.runs.specs.FlatLaws.{runs_in-all}
 use Rattle.meta.specs.Runs.{runs_of}
 use Rattle.extents.specs.Outcome.{Planned}
 use Rattle.extents.specs.Plan.{plan}
@@ -114,6 +115,14 @@ plan_runs work extents old new recorded dirty list =
 
 -- ## Laws
 
+-- the first numbers of a list are written
+pub in_front : (new xs : List ℕ) → length new ≤ length xs → new ++ drop (length new) xs ≡ overwrite 0 new xs
+unfolding overwrite
+in_front new xs h =
+    let all : take (length xs - 0) new ≡ new = take_all (length xs - 0) new (omega (arith, h)) in
+    let past : 0 + length new ≡ length new = omega arith in
+    λ i. sym all i ++ drop (sym past i) xs
+
 pub load_shown : (block fields : List ℕ) (x : Loaded) → 16544 ≤ length block → 21 ≤ length fields → x ≡ load block → shown x fields ≡ load_fields block fields
 unfolding load_fields
 load_shown block fields x a b e = sym (rw (le-ltb (length block) 16544 a, le-ltb (length fields) 21 b) (ap (λ (y : Loaded). shown y fields) (sym e)))
@@ -137,6 +146,13 @@ planned_whole work extents old new recorded dirty =
     let runs : runs_in (length (take (k * 2) extents) / 2) (take (k * 2) extents) ≡ runs_in k extents = ap (λ (n : ℕ). runs_in n (take (k * 2) extents)) half ∙ runs_front k extents in
     let all : dirty ≡ take (length dirty) dirty = sym (take_all (length dirty) dirty (omega arith)) in
     λ i. laid (length work) (plan 16384 1024 old new (runs i) (runs_in (length recorded / 2) recorded) (all i))
+
+-- the same of lists of runs
+pub planned_runs : (work extents : List ℕ) (old new : ℕ) (recorded dirty : List ℕ)
+    → laid (length work) (plan 16384 1024 old new (runs_of extents) (runs_of recorded) dirty) ≡ planned work extents old new recorded dirty
+unfolding planned
+planned_runs work extents old new recorded dirty =
+    λ i. laid (length work) (plan 16384 1024 old new (sym (runs_in-all extents) i) (sym (runs_in-all recorded) i) (sym (take_all (length dirty) dirty (omega arith)) i))
 
 pub plan_shown_lem : (work extents : List ℕ) (old new : ℕ) (recorded dirty list : List ℕ) (o : Outcome') → 1 ≤ length list → length extents / 2 ≤ 1024 → (1025 + length dirty * 2) * 2 ≤ length work
     → o ≡ planned work extents old new recorded dirty → plan_shown o.work o.answer list ≡ plan_runs work extents old new recorded dirty list

@@ -17,7 +17,7 @@ use Rattle.store.specs.Store.{dirty_in}
 use Rattle.transfer.specs.OnMemory.{lent}
 use Rattle.reading.specs.Views.{frames_short}
 use Rattle.encoding.specs.StateBytes.{state_in}
-use Rattle.encoding.specs.Called.{called, call, ask, too_short, values, answer_shown, showing, Looked}
+use Rattle.encoding.specs.Called.{called, call, ask, too_short, values, answer_shown, Looked}
 
 module _ (st an : List ℕ) where
   -- lent nothing

@@ -5,7 +5,8 @@ ghost use Rattle.config.specs.Pages.{count};
 ghost use Rattle.encoding.specs.Called.{call, called, open_at, open_called};
 ghost use Rattle.fnv.specs.Fnv.{fnv1a64, fold};
 ghost use Rattle.std.specs.Prelude.{[], ◌≡◌};
-ghost use Rattle.store.specs.Calls.{begin, checksum, commit, export, file_size, import_begin, import_cancel, import_chunk, import_finish, refresh, refresh_step, rollback, truncate, write};
+ghost use Rattle.store.specs.Calls.{begin, checksum, commit, export, file_size, rollback, truncate, write};
+ghost use Rattle.store.specs.Calls.{import_begin, import_cancel, import_chunk, import_finish, refresh, refresh_step};
 ghost use Rattle.transfer.specs.OnMemory.{lent};
 ghost use Rattle.update.specs.Laid.{bufs};
 ghost use Rattle.yuharopu.specs.Exports.{answer, fresh_fields, grew, grow_pages, load_fields, plan_runs, plans, store_fields};
@@ -194,7 +195,8 @@ pub extern "C" fn yuharopu_rollback_update(
     record: &mut [u64],
     answer: &mut [u64],
 ) -> u64
-    ensures { CallsOnBuffers state.old answer.old (bufs frames.old numbers.old clean.old «record».old) rollback result state.new answer.new (bufs frames.new numbers.new clean.new «record».new) }
+    ensures { CallsOnBuffers state.old answer.old (bufs frames.old numbers.old clean.old «record».old) rollback
+        result state.new answer.new (bufs frames.new numbers.new clean.new «record».new) }
 {
     yuharopu::yuharopu_rollback_update(state, frames, numbers, clean, record, answer)
 }

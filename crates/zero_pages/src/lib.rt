@@ -3,25 +3,20 @@
 
 ghost use Rattle.std.specs.Prelude.{◌≡◌};
 ghost use Rattle.runs.specs.Sets.{covers, within};
-ghost use Rattle.meta.specs.Runs.{run};
 
 use meta::ZeroExtent;
 
-// Whether the run `start .. end` has the page.
-fn in_run(start: u64, end: u64, page: u64) -> bool
-    ensures { result ≡ within (run start end) page }
+// Whether the run has the page.
+fn in_run(x: ZeroExtent, page: u64) -> bool
+    ensures { result ≡ within x page }
 {
-    runs::covered(&[start, end], 1, page)
+    runs::covered(&[x.start, x.end], 1, page)
 }
 
-// 01: the test whether a page is zero "also takes a lent slice of `ZeroExtent`". It calls the covered test on numbers.
+// 01: the test "also takes a lent slice of `ZeroExtent`", "calling the covered test on numbers".
+// It stands for callers that have one: nothing in the store does.
 pub fn is_zero(extents: &[ZeroExtent], page: u64) -> bool
     ensures { result ≡ covers extents.now page }
 {
-    for x in extents {
-        if in_run(x.start, x.end, page) {
-            return true;
-        }
-    }
-    false
+    extents.iter().any(|x| in_run(*x, page))
 }

@@ -1,6 +1,7 @@
 -- The answer to an input. 01: "prints .. page count, run count, each run. Otherwise one line, `result=extents` for 31 or `result=malformed`"
-use Rattle.std.specs.Prelude.{Option, Some, None, Ok, Err, ℕ, List, []}
+use Rattle.std.specs.Prelude.{Option, Some, None, Result, Ok, Err, ℕ, List, []}
 use Rattle.config.specs.Pages.{count}
+use Rattle.runs.specs.Flat.{runs_in}
 use Rattle.extents.specs.Plan.{plan, too_many, kept}
 use Rattle.extents.specs.Plan.{Answer as Planned}
 use Rattle.plan_report.specs.declared.PlanError.{PlanError}
@@ -24,3 +25,8 @@ by_reading None x = report (Err PlanError.Malformed) []
 -- of any text
 unfoldable pub reply : List ℕ → List ℕ
 reply t = by_reading (parse t).parsed (parse t)
+
+-- the reply to a plan of so many pages, whose runs stand in front of a list; or to none
+abbrev pub reply_of : Result (ℕ × ℕ) PlanError → List ℕ → List ℕ
+reply_of (Ok (pages, count)) work = report (Ok pages) (runs_in count work)
+reply_of (Err error) work = report (Err error) []

@@ -1,6 +1,8 @@
 -- Laws of the answer: what the buffers hold after an input was read, and after the plan.
-use Rattle.std.proofs.Math.Path.{◌≡◌, ap}
-use Rattle.std.specs.Prelude.{refl, Option, Some, None, Ok, Err, List, [], ◌∷◌, ℕ, ◌+◌, ◌*◌, ◌/◌, ◌≤◌, min, drop}
+use Rattle.std.proofs.Math.Path.{◌≡◌, ap, subst}
+use Rattle.std.specs.Option.{ok_or}
+use Rattle.std.specs.Result.{MatchResult, IsErrAnd, result_ok}
+use Rattle.std.specs.Prelude.{refl, Option, Some, None, Result, Ok, Err, List, [], ◌∷◌, ℕ, ◌+◌, ◌*◌, ◌/◌, ◌≤◌, min, drop}
 use Rattle.std.proofs.Common.{sym, ◌∙◌, take_at, take_all, length-take}
 use Rattle.std.proofs.Math.Logic.{⊎_elim}
 use native.Mathlib.Omega.{arith}
@@ -146,6 +148,33 @@ enough n c w (kept l) q =
 pub runs_shown : (n : ℕ) (l : List ZeroExtent) → runs_of (take (length l * 2) (padded n (numbers_of l))) ≡ l
 unfolding padded
 runs_shown n l = ap runs_of (take_at (numbers_of l) _ (length l * 2) (length-numbers l)) ∙ runs_numbers l
+
+-- runs that are kept lie in front of the list
+pub runs_kept : {n c : ℕ} {w : List ℕ} {a : Planned} (k : Kept n c w a) → runs_in c w ≡ k.runs
+unfolding runs_in
+runs_kept {n = n} k = (λ i. runs_of (take (k.count i * 2) (k.list i))) ∙ runs_shown n k.runs
+
+-- ## Results on their way out
+
+-- what `ok_or` made of an option
+pub some_was : {T E : Type 0} (o : Option T) (r : Result T E) (x : T) → o ≡ result_ok r → r ≡ Ok x → o ≡ Some x
+some_was o r x e f = e ∙ ap result_ok f
+
+pub none_was : {T E : Type 0} (o : Option T) (r : Result T E) (d e : E) → r ≡ ok_or o d → o ≡ result_ok r → r ≡ Err e → (o ≡ None) × (e ≡ d)
+none_was {T = T} {E = E} o r d e v k f =
+    let n : o ≡ None = k ∙ ap result_ok f in
+    let q : ◌≡◌ {A = Result T E} (Err e) (Err d) = sym f ∙ v ∙ ap (λ (x : Option T). ok_or x d) n in
+    (n, cc)
+
+-- what `map_err` made of a result
+module _ {T E D : Type 0} (P : E → D → Type 0) where
+  pub ok_was : (r : Result T E) (s : Result T D) (x : T) → MatchResult r (λ y. s ≡ Ok y) (λ e. IsErrAnd s (P e)) → s ≡ Ok x → r ≡ Ok x
+  ok_was (Ok y) s x h f = let k : ◌≡◌ {A = Result T D} (Ok y) (Ok x) = sym h ∙ f in let z : y ≡ x = cc in ap (λ (v : T). Ok v) z
+  ok_was (Err e) s x h f = absurd (subst (λ (z : Result T D). IsErrAnd z (P e)) f h)
+
+  pub err_was : (r : Result T E) (s : Result T D) (d : D) → MatchResult r (λ y. s ≡ Ok y) (λ e. IsErrAnd s (P e)) → s ≡ Err d → (e : E) × (r ≡ Err e) × P e d
+  err_was (Ok y) s d h f = let k : ◌≡◌ {A = Result T D} (Ok y) (Err d) = sym h ∙ f in let z : ◌≡◌ {A = ℕ} 0 1 = cc in absurd (omega arith)
+  err_was (Err e) s d h f = (e, refl, subst (λ (z : Result T D). IsErrAnd z (P e)) f h)
 
 -- ## The answer of each kind
 

@@ -15,8 +15,8 @@ returns-in_err-count c =
     let a = c.args in
     let p = err_from_is_err_and c.from_residual.result c.from_residual.ensures.1 in
     let r = plan_refused _ _ _ _ _ c.plan.ensures c.in_err-count.was in
-    settle_refused 16384 65536 8 1024 18446744073709551615 real_codec a.update a.s.now a.mem.now a.size a.numbers.now a.frames.now _ _ _ r.0
-    (ap (λ (x : Result (Unit {0}) Refusal). left_by a.s.now (done x)) (p.1 ∙ ap Err (p.2 ∙ r.1)))
+    rw (← c.stored-image.ensures.runs) (settle_refused 16384 65536 8 1024 18446744073709551615 real_codec a.update a.s.now a.mem.now a.size a.frames.numbers.now a.frames.bytes.now _ _ _ r.0
+    (ap (λ (x : Result (Unit {0}) Refusal). left_by a.s.now (done x)) (p.1 ∙ ap Err (p.2 ∙ r.1))))
 
 pub returns-in_err-end : goal.returns-in_err-end
 returns-in_err-end c =
@@ -24,8 +24,8 @@ returns-in_err-end c =
     let p = err_from_is_err_and c.from_residual-in_err-end.result c.from_residual-in_err-end.ensures.1 in
     let none : ◌≡◌ {A = Option ℕ} c.required_end.result None = grind arith in
     let why : c.in_err-end.field-0.0 ≡ OffsetOverflow = grind arith in
-    settle_over 16384 65536 8 1024 18446744073709551615 real_codec a.update a.s.now a.mem.now a.size a.numbers.now a.frames.now _ _ _ (plan_kept _ _ _ _ _ c.plan.ensures c.in_ok-count.was) _
-    (reach_over _ (sym c.required_end.ensures ∙ none)) (ap (λ (x : Result (Unit {0}) Refusal). left_by a.s.now (done x)) (p.1 ∙ ap Err (p.2 ∙ why)))
+    rw (← c.stored-image.ensures.runs) (settle_over 16384 65536 8 1024 18446744073709551615 real_codec a.update a.s.now a.mem.now a.size a.frames.numbers.now a.frames.bytes.now _ _ _ (plan_kept _ _ _ _ _ c.plan.ensures c.in_ok-count.was) _
+    (reach_over _ (sym c.required_end.ensures ∙ none)) (ap (λ (x : Result (Unit {0}) Refusal). left_by a.s.now (done x)) (p.1 ∙ ap Err (p.2 ∙ why))))
 
 pub overflow_mul-count : goal.overflow_mul-count
 overflow_mul-count c = omega (arith, plan_room _ _ _ _ _ c.plan.ensures c.in_ok-count.was, c.plan.auto.work, c.well_formed)
@@ -44,4 +44,4 @@ returns c =
     let a = c.args in
     let some : ◌≡◌ {A = Option ℕ} c.required_end.result (Some c.in_ok-end.end) = grind arith in
     let t = reach_at _ _ (sym c.required_end.ensures ∙ some) in
-    settle_on 16384 65536 8 1024 18446744073709551615 real_codec a.update a.s.now a.mem.now a.size a.numbers.now a.frames.now _ _ _ (plan_kept _ _ _ _ _ c.plan.ensures c.in_ok-count.was) _ _ _ t.0 t.1 c.publish.ensures
+    rw (← c.stored-image.ensures.runs) (settle_on 16384 65536 8 1024 18446744073709551615 real_codec a.update a.s.now a.mem.now a.size a.frames.numbers.now a.frames.bytes.now _ _ _ (plan_kept _ _ _ _ _ c.plan.ensures c.in_ok-count.was) _ _ _ t.0 t.1 c.publish.ensures)

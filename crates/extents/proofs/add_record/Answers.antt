@@ -1,31 +1,52 @@
-use Rattle.std.proofs.Common.{◌∙◌, arith, rules}
-use Rattle.extents.specs.Steps.{told}
-use Rattle.extents.specs.PlanLaws.{told_norm, run_added, all_added}
+use Rattle.std.proofs.Common.{ℕ, ◌≡◌, ◌∙◌, List, [], ◌∷◌, drop, refl, sym, arith, rules}
+use Rattle.meta.specs.declared.ZeroExtent.{ZeroExtent}
+use Rattle.extents.specs.Plan.{Answer, add_one, add_each}
+use Rattle.extents.specs.Steps.{norm, told}
+use Rattle.extents.specs.PlanLaws.{told_norm, each_norm}
 use Rattle.extents.proofs.add_record.Goals as goal
 
-pub add_within-have-requires : goal.add_within-have-requires
-add_within-have-requires g c =
-    let i = c.loop-i in
-    record { most = i.invariant.1; room = omega (arith, c.requires.room); tidy = i.invariant.2 }
+module _ (limit : ℕ) (left : List ZeroExtent) where
+  -- the first of the runs that are left is added
+  first_added : (x : ZeroExtent) (rest : List ZeroExtent) (a b : Answer) → left ≡ x ∷ rest → b ≡ norm (add_one limit x a) → norm (add_each limit rest b) ≡ norm (add_each limit left a)
+  first_added x rest a b e g = rw (e, g) (sym (each_norm limit rest (add_one limit x a)))
 
-pub loop-i-preserved : goal.loop-i-preserved
-loop-i-preserved g c =
+  none_left : (a b : Answer) → left ≡ [] → norm a ≡ a → norm (add_each limit left a) ≡ b → a ≡ b
+  none_left a b e f h = sym f ∙ rw e at h
+
+pub loop-x-init : goal.loop-x-init
+loop-x-init g c =
+    let i = c.into_iter-x-iterator in
+    let first : drop i.result.next (g.L.RunList.runs i.result.list) ≡ g.L.RunList.runs c.args.«record» = search rules in
+    ((refl, refl), c.requires.most, rw first)
+
+pub add_within-requires : goal.add_within-requires
+add_within-requires g c =
+    let i = c.loop-x in
+    record { most = i.invariant.1; room = omega (arith, c.requires.room, i.invariant.0.1); tidy = i.set.tidy.1 }
+
+pub loop-x-preserved : goal.loop-x-preserved
+loop-x-preserved g c =
     let a = c.args in
-    let i = c.loop-i in
-    let x = c.get-x in
-    let d = c.add_within-have in (
-      search rules,
-      d.ensures.most,
-      d.ensures.tidy,
-      run_added a.limit (g.L.RunList.runs a.«record») i.i x.result (told a.limit i.have i.work) (told a.limit d.result d.new.work) (omega arith) x.ensures d.ensures.says ∙ i.invariant.3,
+    let i = c.loop-x in
+    let s = i.set in
+    let x = c.in-Some in
+    let d = c.add_within in
+    let t = d.new.set in (
+      (d.ensures.same.0 ∙ i.invariant.0.0, d.ensures.same.1 ∙ i.invariant.0.1),
+      d.ensures.added.most,
+      first_added a.limit _ x.x _ (told a.limit s.count s.work.now) (told a.limit t.count t.work.now) x.ensures.steps d.ensures.added.says ∙ i.invariant.2,
     )
 
-pub returns : goal.returns
-returns g c =
+pub returns-clause-same : goal.returns-clause-same
+returns-clause-same g c = c.loop-x.invariant.0
+
+pub returns-clause-added : goal.returns-clause-added
+returns-clause-added g c =
     let a = c.args in
-    let i = c.loop-i in
+    let i = c.loop-x in
+    let s = i.set in
     record {
       most = i.invariant.1;
-      tidy = i.invariant.2;
-      says = cc (told_norm a.limit i.have i.work i.invariant.2, all_added a.limit (g.L.RunList.runs a.«record») i.i (told a.limit i.have i.work) (omega arith), i.invariant.3);
+      tidy = s.tidy.1;
+      says = none_left a.limit _ (told a.limit s.count s.work.now) _ c.in-None.ensures.steps.0 (told_norm a.limit s.count s.work.now s.tidy.1) i.invariant.2;
     }

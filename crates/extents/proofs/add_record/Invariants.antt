@@ -1,11 +1,12 @@
-use Rattle.std.proofs.Common.{◌≡◌, ◌+◌, ◌≤◌, true, length, drop}
-use Rattle.meta.specs.Runs.{normalized}
-use Rattle.runs.specs.Flat.{runs_in}
+use Rattle.std.proofs.Common.{◌≡◌, ◌+◌, ◌≤◌, drop}
+use Rattle.page_sets.specs.Lent.{IsSameList}
 use Rattle.extents.specs.Plan.{add_each}
 use Rattle.extents.specs.Steps.{norm, told}
 use Rattle.extents.proofs.add_record.Given as goal
 
-abbrev pub invariant-loop-i : goal.invariant-loop-i
-invariant-loop-i g l =
-    (length l.work ≡ length l.initial.work) × (l.have ≤ l.limit + 1) × (normalized (runs_in l.have l.work) ≡ true)
-    × (norm (add_each l.limit (drop l.i (g.L.RunList.runs l.«record»)) (told l.limit l.have l.work)) ≡ norm (add_each l.limit (g.L.RunList.runs l.«record») (told l.limit l.count l.initial.work)))
+abbrev pub invariant-loop-x : goal.invariant-loop-x
+invariant-loop-x g l =
+    let left = drop l.x-iterator.next (g.L.RunList.runs l.x-iterator.list) in
+    let first = l.initial.set in
+    IsSameList first.work l.set.work × (l.set.count ≤ l.limit + 1)
+    × (norm (add_each l.limit left (told l.limit l.set.count l.set.work.now)) ≡ norm (add_each l.limit (g.L.RunList.runs l.fn.«record») (told l.limit first.count first.work.now)))

@@ -1,5 +1,5 @@
 -- `fnv::fold_eight` meets its contract: three bytes and then five, or three and one multiplication for the zeros.
-use Rattle.std.proofs.Common.{◌≡◌, ℕ, ◌++◌, ◌^◌, ◌<◌, true, List, length, sym, ap, ◌∙◌, arith, take-append-drop}
+use Rattle.std.proofs.Common.{◌≡◌, ℕ, ◌^◌, ◌<◌, true, length, sym, ap, ◌∙◌, arith, take-append-drop}
 use Rattle.fnv.specs.Fnv.{fold, fold_join}
 use Rattle.fnv.specs.Zeros.{all_zeros, five_zeros}
 use Rattle.fnv.proofs.fold_eight.Goals as goal

@@ -10,13 +10,13 @@ read_pages-requires c =
     let a = c.args in
     let size : a.stored.image.size ≤ 18446744073709551615 = search rules in
     let offset : a.offset ≤ 18446744073709551615 = search rules in
-    omega (arith, length-take c.min-n.result a.dst.now, c.min-n.ensures, c.saturating_sub-left.ensures, size, offset)
+    omega (arith, length-take c.below_size-n.result a.dst.now, c.below_size-n.ensures, size, offset)
 
 pub returns : goal.returns
 returns c =
     let a = c.args in
-    let n : ℕ = c.min-n.result in
-    let few : n ≡ min (a.stored.image.size - a.offset) (length a.dst.now) = c.min-n.ensures ∙ ap (λ (x : ℕ). min x (length a.dst.now)) c.saturating_sub-left.ensures in
+    let n : ℕ = c.below_size-n.result in
+    let few : n ≡ min (length a.dst.now) (a.stored.image.size - a.offset) = c.below_size-n.ensures in
     let front : length (take n a.dst.now) ≡ n = length-take n a.dst.now ∙ omega (arith, few) in
     read_both 16384 (omega arith) a.stored.image a.stored.mem.now a.offset n c.read_pages.new.dst a.dst.now c.fill.new.dst (omega (arith, few)) (λ h. omega (arith, few, h))
     (c.read_pages.ensures ∙ ap (λ (k : ℕ). tabulate_from a.offset k (image_in 16384 a.stored.image a.stored.mem.now)) front) c.fill.ensures

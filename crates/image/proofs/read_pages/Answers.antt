@@ -1,42 +1,52 @@
--- `image::read_pages` meets its contract: after each turn the front of the destination holds the bytes read so far.
-use mathlib.Core.Path.{◌≡◌, sym, ap, ◌∙◌}
-use Prim.Native.Nat.{ℕ, ◌+◌, ◌-◌, ◌≤◌}
-use native.Mathlib.Omega.{arith}
-use mathlib.Core.List.{List}
-use lib.ListN.{length, take, drop}
+-- `image::read_pages` meets its contract: before each turn the front of the destination holds the bytes read so far.
+use Rattle.std.proofs.Common.{◌≡◌, ◌+◌, ◌-◌, ◌≤◌, refl, sym, ap, ◌∙◌, arith, ℕ, List, length, take, drop}
 use borrow.Rule.Slice.PartMut.{put_mid}
-use borrow.Author.Rules.{rules}
 use Rattle.memory.specs.Bytes.{overwrite}
-use Rattle.memory.specs.Laws.{length_part, overwrite_nil}
+use Rattle.memory.specs.Laws.{length_part, length-overwrite, overwrite_nil}
 use Rattle.update.specs.Lists.{tabulate_from}
-use Rattle.update.specs.Image.{image_in}
+use Rattle.update.specs.Image.{image_in, image_part}
 use Rattle.image.specs.ImageReads.{read_more, read_all}
 use Rattle.image.proofs.read_pages.Goals as goal
 
-pub loop-done-init : goal.loop-done-init
-loop-done-init c = (search rules, search rules, sym (overwrite_nil 0 c.args.dst.now))
-
-pub loop-done-preserved : goal.loop-done-preserved
-loop-done-preserved c =
+pub loop-at-init : goal.loop-at-init
+loop-at-init c =
     let a = c.args in
-    let x = c.loop-done in
-    let t = c.loop-done-test in
-    let g = c.page_offset-within in
-    let m = c.min in
+    let i = c.into_iter-at-iterator in
+    let at : i.result.at ≡ a.offset = λ j. (i.ensures.into_iter_gives j).at in
+    let end : i.result.end ≡ a.offset + length a.dst.now = λ j. (i.ensures.into_iter_gives j).end in
+    (omega (arith, at), omega (arith, at, end), end, refl, sym (overwrite_nil 0 a.dst.now))
+
+pub loop-at-preserved : goal.loop-at-preserved
+loop-at-preserved c =
+    let a = c.args in
+    let x = c.loop-at in
+    let v = x.invariant in
+    let s = c.in-Some.ensures.steps in
     let p = c.read_image in
-    let k : ℕ = x.done + m.result - x.done in
-    let fit : x.done + k ≤ length x.dst = omega (arith, m.ensures, t.true) in
-    let long : length (take k (drop x.done x.dst)) ≡ k = length_part x.done k x.dst fit in (
-      search rules,
-      search rules,
-      ap (λ (y : List ℕ). put_mid x.done k y p.new.dst) x.invariant.2
-          ∙ read_more 16384 (omega arith) a.stored.image a.stored.mem.now a.offset x.done k (length (take k (drop x.done x.dst))) a.dst.now p.new.dst long
-          (omega (arith, m.ensures, g.ensures)) (omega (arith, fit, x.invariant.1)) p.ensures
-          ∙ ap (λ (y : ℕ). overwrite 0 (tabulate_from a.offset y (image_in 16384 a.stored.image a.stored.mem.now)) a.dst.now) {x = x.done + k} {y = x.done + m.result} (omega arith),
+    let done : ℕ = x.done in
+    let k : ℕ = done + c.in-Some.n - done in
+    let upto : ℕ → List ℕ = λ d. overwrite 0 (tabulate_from a.offset d (image_in 16384 a.stored.image a.stored.mem.now)) a.dst.now in
+    let fit : done + k ≤ length x.dst = omega (arith, s.0, s.2, v.0, v.2) in
+    let long : length (take k (drop done x.dst)) ≡ k = length_part done k x.dst fit in
+    let o : c.in-Some.at ≡ a.offset + done = omega (arith, s.1, v.0) in
+    let read : p.new.dst ≡ image_part 16384 a.stored.image a.stored.mem.now (a.offset + done) (length (take k (drop done x.dst))) =
+    p.ensures ∙ ap (λ (y : ℕ). image_part 16384 a.stored.image a.stored.mem.now y (length (take k (drop done x.dst)))) o in
+    let new : put_mid done k x.dst p.new.dst ≡ upto (done + c.in-Some.n) =
+    ap (λ (y : List ℕ). put_mid done k y p.new.dst) v.4
+    ∙ read_more 16384 (omega arith) a.stored.image a.stored.mem.now a.offset done k (length (take k (drop done x.dst))) a.dst.now p.new.dst long
+    (omega (arith, s.1, s.2, v.0)) (omega (arith, fit, v.3)) read
+    ∙ ap upto {x = done + k} {y = done + c.in-Some.n} (omega arith) in
+    let same : length (put_mid done k x.dst p.new.dst) ≡ length a.dst.now = ap length new ∙ length-overwrite 0 _ a.dst.now in (
+      omega (arith, s.3, v.0),
+      omega (arith, s.0, s.2, s.3, s.4),
+      s.4 ∙ v.2 ∙ ap (λ (n : ℕ). a.offset + n) (v.3 ∙ sym same),
+      same,
+      new,
     )
 
 pub returns : goal.returns
 returns c =
     let a = c.args in
-    let x = c.loop-done in
-    x.invariant.2 ∙ read_all 16384 (omega arith) a.stored.image a.stored.mem.now a.offset x.done a.dst.now (omega (arith, x.invariant.0, x.invariant.1, c.loop-done-test.false))
+    let x = c.loop-at in
+    let v = x.invariant in
+    v.4 ∙ read_all 16384 (omega arith) a.stored.image a.stored.mem.now a.offset x.done a.dst.now (omega (arith, v.0, v.1, v.2, v.3, c.in-None.ensures.steps))

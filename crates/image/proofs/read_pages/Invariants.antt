@@ -1,13 +1,9 @@
-use mathlib.Core.Path.{◌≡◌}
-use Prim.Native.Nat.{◌-◌, ◌≤◌}
-use lib.ListN.{length}
+use Rattle.std.proofs.Common.{◌≡◌, ◌+◌, ◌≤◌, length}
 use Rattle.memory.specs.Bytes.{overwrite}
 use Rattle.update.specs.Lists.{tabulate_from}
 use Rattle.update.specs.Image.{image_in}
 use Rattle.image.proofs.read_pages.Given as goal
 
-abbrev pub invariant-loop-done : goal.invariant-loop-done
-invariant-loop-done l = (l.done ≤ length l.dst) × (length l.dst ≡ length l.initial.dst) × (l.dst ≡ overwrite 0 (tabulate_from l.offset l.done (image_in 16384 l.stored.image l.stored.mem.now)) l.initial.dst)
-
-abbrev pub decreases-loop-done : goal.decreases-loop-done
-decreases-loop-done l = length l.initial.dst - l.done
+abbrev pub invariant-loop-at : goal.invariant-loop-at
+invariant-loop-at l = (l.at-iterator.at ≡ l.offset + l.done) × (l.at-iterator.at ≤ l.at-iterator.end) × (l.at-iterator.end ≡ l.offset + length l.dst) × (length l.dst ≡ length l.fn.dst)
+    × (l.dst ≡ overwrite 0 (tabulate_from l.offset l.done (image_in 16384 l.stored.image l.stored.mem.now)) l.fn.dst)

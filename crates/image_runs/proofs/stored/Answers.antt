@@ -4,7 +4,7 @@ use Prim.Native.Nat.{min}
 use Rattle.std.specs.Option.{MatchOption, unwrap_or}
 use Rattle.std.specs.List.{slice_range}
 use Rattle.meta.specs.Runs.{runs_in as stored_in}
-use Rattle.image_runs.specs.Image.{image_count, image_runs, image_stored}
+use Rattle.image_runs.specs.Image.{image_count, image_runs, image_few, image_stored}
 use Rattle.image_runs.proofs.stored.Goals as goal
 
 module _ (mem : List ℕ) where
@@ -26,4 +26,5 @@ returns c =
     let mem = c.args.mem.now in
     let l = c.unwrap_or-list in
     let whole : l.result.now ≡ drop 160 mem = rw l.ensures (listed mem c.get.result _ c.get.ensures.lookup.0 refl) in
-    cut_off mem c.args.count c.min-n.result l.result.now whole (rw c.min.ensures at c.min-n.ensures)
+    let same = cut_off mem c.args.count c.min-n.result l.result.now whole (rw c.min.ensures at c.min-n.ensures) in
+    record { runs = same; few = rw same (image_few c.args.count mem) }

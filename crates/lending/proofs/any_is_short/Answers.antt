@@ -1,8 +1,9 @@
-use Rattle.std.proofs.Common.{sym, ◌∙◌, ap}
+use Rattle.std.proofs.Common.{sym, ◌∙◌, ap, length}
+use Rattle.std.proofs.Math.Dec.{ltb}
 use mathlib.Core.Bool.{not}
 use Rattle.update.specs.Laid.{bufs}
 use Rattle.transfer.specs.StoreCases.{too_short_lem, is_lent}
-use Rattle.lending.specs.FirstTests.{any_memory, any_buffers, any_work}
+use Rattle.lending.specs.FirstTests.{any_memory, any_buffers, any_room}
 use Rattle.lending.proofs.any_is_short.Goals.{then-not-is_lent, else-not-is_lent}
 use Rattle.lending.proofs.any_is_short.Goals as goal
 
@@ -20,5 +21,5 @@ returns-else-are_short c =
     let a = c.args in
     elim c.if-not-is_lent.branch [
       | then-not-is_lent w ↦ cc
-      | else-not-is_lent w ↦ sym (any_work a.s.now a.mem.now (bufs a.frames.now a.numbers.now a.clean.now a.«record».now) a.work.now (is_lent a.s.now a.mem.now c.is_lent.result c.is_lent.ensures (ap not w.if-not-is_lent.false)) (sym w.are_short.ensures ∙ sym w.value-is ∙ c.if-are_short.false) c.frame_count.result c.frame_count.ensures)
+      | else-not-is_lent w ↦ ap (ltb (length a.work.now)) c.work_numbers.ensures ∙ sym (any_room a.s.now a.mem.now (bufs a.frames.now a.numbers.now a.clean.now a.«record».now) a.work.now (is_lent a.s.now a.mem.now c.is_lent.result c.is_lent.ensures (ap not w.if-not-is_lent.false)) (sym w.are_short.ensures ∙ sym w.value-is ∙ c.if-are_short.false) c.frame_count.result c.frame_count.ensures)
     ]

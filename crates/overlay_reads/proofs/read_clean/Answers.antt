@@ -26,32 +26,32 @@ shown c =
     let n : ℕ = length a.dst.now in
     let ns : List ℕ = take a.c.now.count a.c.now.pages in
     let r = c.requires in
-    let same : place_of (cached 16384 8 a.c.now) a.page ≡ place_of ns a.page = ap (λ (x : List ℕ). place_of x a.page) (settled_cached 16384 8 a.c.now r.0) in
+    let same : place_of (cached 16384 8 a.c.now) a.page ≡ place_of ns a.page = ap (λ (x : List ℕ). place_of x a.page) (settled_cached 16384 8 a.c.now r.0.0) in
     elim c.match-find.branch [
       | in-Some w ↦
           let f = found_at ns a.page w.in-Some.at (sym w.in-Some.is ∙ c.find.ensures) in
           let k : w.in-Some.at ≡ place_of (cached 16384 8 a.c.now) a.page = f.0 ∙ sym same in
           let few : place_of (cached 16384 8 a.c.now) a.page < a.c.now.count = omega (arith, k, f.1, length-take a.c.now.count a.c.now.pages) in
           rw (w.c-is, w.clean-is, w.at-is, k) (
-            omega (arith, few, settled_most 16384 8 a.c.now r.0),
+            omega (arith, few, settled_most 16384 8 a.c.now r.0.0),
             (
-              hit_fits 16384 8 (omega arith) (omega arith) a.c.now a.clean.now r.0 r.1 b a.page a.within n r.2 few,
-              sym (read_hit 16384 8 (omega arith) (omega arith) a.c.now a.clean.now r.0 r.1 b a.page a.within n r.2 few),
+              hit_fits 16384 8 (omega arith) (omega arith) a.c.now a.clean.now r.0.0 r.0.1 b a.page a.within n r.1 few,
+              sym (read_hit 16384 8 (omega arith) (omega arith) a.c.now a.clean.now r.0.0 r.0.1 b a.page a.within n r.1 few),
             ),
           )
       | in-None w ↦
-          let f : a.c.now.count ≤ place_of (cached 16384 8 a.c.now) a.page = omega (arith, found_none ns a.page (sym w.in-None.is ∙ c.find.ensures), same, length-take a.c.now.count a.c.now.pages, settled-length 16384 8 a.c.now r.0, settled_most 16384 8 a.c.now r.0) in
-          rw (w.c-is, w.clean-is, w.at-is) (miss_shown 16384 8 (omega arith) (omega arith) a.c.now a.clean.now r.0 r.1 b a.page a.within n r.2 w.insert.new.c w.insert.new.clean w.insert.ensures f)
+          let f : a.c.now.count ≤ place_of (cached 16384 8 a.c.now) a.page = omega (arith, found_none ns a.page (sym w.in-None.is ∙ c.find.ensures), same, length-take a.c.now.count a.c.now.pages, settled-length 16384 8 a.c.now r.0.0, settled_most 16384 8 a.c.now r.0.0) in
+          rw (w.c-is, w.clean-is, w.at-is) (miss_shown 16384 8 (omega arith) (omega arith) a.c.now a.clean.now r.0.0 r.0.1 b a.page a.within n r.1 w.insert.new.c w.insert.new.clean w.insert.ensures f)
     ]
 
 pub shared_ref_as_front-find : goal.shared_ref_as_front-find
-shared_ref_as_front-find c = settled_most 16384 8 c.args.c.now c.requires.0
+shared_ref_as_front-find c = settled_most 16384 8 c.args.c.now c.requires.0.0
 
 pub overflow_sub-at : goal.overflow_sub-at
 overflow_sub-at c =
     let a = c.args in
     let r = c.requires in
-    omega (arith, taken_few 16384 8 (omega arith) (omega arith) a.c.now a.clean.now r.0 r.1 (image_in 16384 a.stored.image a.stored.mem.now) a.page a.within (length a.dst.now) r.2, ap (λ (x : CacheOut). x.cache.count) c.insert.ensures)
+    omega (arith, taken_few 16384 8 (omega arith) (omega arith) a.c.now a.clean.now r.0.0 r.0.1 (image_in 16384 a.stored.image a.stored.mem.now) a.page a.within (length a.dst.now) r.1, ap (λ (x : CacheOut). x.cache.count) c.insert.ensures)
 
 pub overflow_mul-from : goal.overflow_mul-from
 overflow_mul-from c = omega (arith, shown (goal.at.overflow_mul-from c).Joined-find)

@@ -21,28 +21,28 @@ use Rattle.overlay_reads.proofs.read_page.Goals.{In-Some, After-covered}
 pub slice_bounds-find-end : goal.slice_bounds-find-end
 slice_bounds-find-end c =
     let a = c.args in
-    sym (length-take-le a.o.now.dirty a.numbers.now (few_numbers 16384 8 (omega arith) a.o.now (bufs a.frames.now a.numbers.now a.clean.now a.«record».now) c.requires.0))
+    sym (length-take-le a.o.now.dirty a.frames.numbers.now (few_numbers 16384 8 (omega arith) a.o.now (bufs a.frames.bytes.now a.frames.numbers.now a.clean.now a.«record».now) c.requires.0))
 
 -- the page's frame
 frame : (c : In-Some) → let a = c.args in
-    (c.in-Some.at ≡ place_in a.o.now (bufs a.frames.now a.numbers.now a.clean.now a.«record».now) (a.offset / 16384)) × ((c.in-Some.at < a.o.now.dirty)
-    × (c.in-Some.at * 16384 + c.page_offset-within.result + length a.dst.now ≤ length a.frames.now))
+    (c.in-Some.at ≡ place_in a.o.now (bufs a.frames.bytes.now a.frames.numbers.now a.clean.now a.«record».now) (a.offset / 16384)) × ((c.in-Some.at < a.o.now.dirty)
+    × (c.in-Some.at * 16384 + c.page_offset-within.result + length a.dst.now ≤ length a.frames.bytes.now))
 frame c =
     let a = c.args in
-    let l = bufs a.frames.now a.numbers.now a.clean.now a.«record».now in
-    let f = found_at (take a.o.now.dirty a.numbers.now) c.page_no-page.result.0 c.in-Some.at (sym c.in-Some.is ∙ c.find.ensures) in
+    let l = bufs a.frames.bytes.now a.frames.numbers.now a.clean.now a.«record».now in
+    let f = found_at (take a.o.now.dirty a.frames.numbers.now) c.page_no-page.result.0 c.in-Some.at (sym c.in-Some.is ∙ c.find.ensures) in
     let k : c.in-Some.at ≡ place_in a.o.now l (a.offset / 16384) = f.0 ∙ ap (λ (p : ℕ). place_in a.o.now l p) c.page_no-page.ensures in
-    let few : c.in-Some.at < a.o.now.dirty = omega (arith, f.1, length-take a.o.now.dirty a.numbers.now) in
+    let few : c.in-Some.at < a.o.now.dirty = omega (arith, f.1, length-take a.o.now.dirty a.frames.numbers.now) in
     let h = frame_held 16384 8 (omega arith) a.o.now l c.requires.0 0 a.stored.image a.stored.mem.now (a.offset / 16384) (omega (arith, k, few)) in
     (k, (few, omega (arith, h, k, c.requires.1, c.page_offset-within.ensures)))
 
 -- it is not dirty
-free : (c : After-covered) → let a = c.args in a.o.now.dirty ≤ place_in a.o.now (bufs a.frames.now a.numbers.now a.clean.now a.«record».now) (a.offset / 16384)
+free : (c : After-covered) → let a = c.args in a.o.now.dirty ≤ place_in a.o.now (bufs a.frames.bytes.now a.frames.numbers.now a.clean.now a.«record».now) (a.offset / 16384)
 free c =
     let a = c.args in
-    let l = bufs a.frames.now a.numbers.now a.clean.now a.«record».now in
-    let f = found_none (take a.o.now.dirty a.numbers.now) c.page_no-page.result.0 (sym c.in_default.is ∙ c.find.ensures) in
-    omega (arith, f, ap (λ (p : ℕ). place_in a.o.now l p) c.page_no-page.ensures, length-take-le a.o.now.dirty a.numbers.now (few_numbers 16384 8 (omega arith) a.o.now l c.requires.0))
+    let l = bufs a.frames.bytes.now a.frames.numbers.now a.clean.now a.«record».now in
+    let f = found_none (take a.o.now.dirty a.frames.numbers.now) c.page_no-page.result.0 (sym c.in_default.is ∙ c.find.ensures) in
+    omega (arith, f, ap (λ (p : ℕ). place_in a.o.now l p) c.page_no-page.ensures, length-take-le a.o.now.dirty a.frames.numbers.now (few_numbers 16384 8 (omega arith) a.o.now l c.requires.0))
 
 pub overflow_mul-from : goal.overflow_mul-from
 overflow_mul-from c = omega (arith, frame (goal.at.overflow_mul-from c).In-Some, c.well_formed, c.ranges)
@@ -61,8 +61,8 @@ returns-in-Some c =
     let a = c.args in
     let at : ℕ = c.in-Some.at in
     let within : ℕ = c.page_offset-within.result in
-    let f : List ℕ = a.frames.now in
-    let l = bufs a.frames.now a.numbers.now a.clean.now a.«record».now in
+    let f : List ℕ = a.frames.bytes.now in
+    let l = bufs a.frames.bytes.now a.frames.numbers.now a.clean.now a.«record».now in
     let w = frame (goal.at.returns-in-Some c).In-Some in
     let bytes : c.copy.new.dst ≡ take (length a.dst.now) (drop (place_in a.o.now l (a.offset / 16384) * 16384 + a.offset % 16384) f) =
     c.copy.ensures ∙ copied (at * 16384 + within) f a.dst.now w.1.1
@@ -73,7 +73,7 @@ returns-in-Some c =
 pub returns-then-covered : goal.returns-then-covered
 returns-then-covered c =
     let a = c.args in
-    let l = bufs a.frames.now a.numbers.now a.clean.now a.«record».now in
+    let l = bufs a.frames.bytes.now a.frames.numbers.now a.clean.now a.«record».now in
     let cover : covers (runs_in a.o.now.recorded a.«record».now) (a.offset / 16384) ≡ true =
     ap (covers (runs_in a.o.now.recorded a.«record».now)) (sym c.page_no-page.ensures) ∙ sym c.covered.ensures ∙ c.if-covered.true in
     ap (λ (x : List ℕ). seen a.o.now l x (Ok true)) c.fill.ensures
@@ -82,7 +82,7 @@ returns-then-covered c =
 pub returns-else-covered : goal.returns-else-covered
 returns-else-covered c =
     let a = c.args in
-    let l = bufs a.frames.now a.numbers.now a.clean.now a.«record».now in
+    let l = bufs a.frames.bytes.now a.frames.numbers.now a.clean.now a.«record».now in
     let cover : covers (runs_in a.o.now.recorded a.«record».now) (a.offset / 16384) ≡ false =
     ap (covers (runs_in a.o.now.recorded a.«record».now)) (sym c.page_no-page.ensures) ∙ sym c.covered.ensures ∙ c.if-covered.false in
     let x = clean_seen c.read_clean.new.c c.read_clean.new.clean c.read_clean.new.dst in

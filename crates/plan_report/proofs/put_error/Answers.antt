@@ -7,8 +7,12 @@ use Rattle.plan_report.proofs.put_error.Goals as goal
 
 pub returns-in-Extents : goal.returns-in-Extents
 unfolding report
-returns-in-Extents c = c.put.ensures ∙ ap (λ (e : PlanError). write 0 (report (Err e) []) c.args.out.now) (sym c.in-Extents.is)
+returns-in-Extents c =
+    let w = c.args.writer.now in
+    (c.put.ensures.0, c.put.ensures.1 ∙ ap (λ (e : PlanError). write w.at (report (Err e) []) w.out.now) (sym c.in-Extents.is))
 
 pub returns-in-Malformed : goal.returns-in-Malformed
 unfolding report
-returns-in-Malformed c = c.put-in-Malformed.ensures ∙ ap (λ (e : PlanError). write 0 (report (Err e) []) c.args.out.now) (sym c.in-Malformed.is)
+returns-in-Malformed c =
+    let w = c.args.writer.now in
+    (c.put-in-Malformed.ensures.0, c.put-in-Malformed.ensures.1 ∙ ap (λ (e : PlanError). write w.at (report (Err e) []) w.out.now) (sym c.in-Malformed.is))

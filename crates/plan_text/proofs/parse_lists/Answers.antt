@@ -10,20 +10,20 @@ use Rattle.plan_text.specs.Whole.{extents_in, records_in, dirty_in, extents_brok
 use Rattle.plan_text.proofs.parse_lists.Goals.{In_ok-first, In_ok-second, In_ok-third}
 use Rattle.plan_text.proofs.parse_lists.Goals as goal
 
-first : (c : In_ok-first) → filled c.in_ok-first.first.count (from c.args.text.now c.in_ok-first.first.next) c.read_section.new.out
+first : (c : In_ok-first) → filled c.in_ok-first.first.value (from c.args.text.now c.in_ok-first.first.next) c.read_section.new.out
     ≡ fill_runs 0 (extents_in (from c.args.text.now c.args.at)) c.args.extents.now
 first c =
     c.in_ok-first.ensures normalized (λ xs r k. let q : r ≡ ascending k.shown.now = search (rules, tests) in q ∙ ap ascending k.shows ∙ normalized_test xs)
     ∙ extents_read (from c.args.text.now c.args.at) c.args.extents.now c.told-extents
 
-second : (c : In_ok-second) → filled c.in_ok-second.second.count (from c.args.text.now c.in_ok-second.second.next) c.read_section-2.new.out
+second : (c : In_ok-second) → filled c.in_ok-second.second.value (from c.args.text.now c.in_ok-second.second.next) c.read_section-2.new.out
     ≡ fill_runs 0 (records_in (from c.args.text.now c.in_ok-first.first.next)) c.args.recorded.now
 second c =
     c.in_ok-second.ensures non_empty (λ xs r k.
     let q : r ≡ non_empty (runs_of k.shown.now) = search (rules, tests) in q ∙ ap (λ (l : List ℕ). non_empty (runs_of l)) k.shows ∙ non_empty-test xs)
     ∙ records_read (from c.args.text.now c.in_ok-first.first.next) c.args.recorded.now c.told-recorded
 
-third : (c : In_ok-third) → filled c.in_ok-third.third.count (from c.args.text.now c.in_ok-third.third.next) c.read_section-3.new.out
+third : (c : In_ok-third) → filled c.in_ok-third.third.value (from c.args.text.now c.in_ok-third.third.next) c.read_section-3.new.out
     ≡ fill_pages 0 (dirty_in (from c.args.text.now c.in_ok-second.second.next)) c.args.dirty.now
 third c =
     c.in_ok-third.ensures distinct (λ xs r k. let q : r ≡ distinct k.shown.now = search (rules, tests) in q ∙ ap distinct k.shows)

@@ -85,7 +85,7 @@ fits c =
     room c.args.frames.now c.args.numbers.now c.args.o.now.dirty c.args.o.now.budget c.take_frame.new.o.budget c.in_ok-at.at c.in_ok-at.ensures.ok.0 c.in_ok-at.ensures.answer
 
 pub overflow_mul-from : goal.overflow_mul-from
-overflow_mul-from c = omega (arith, fits c)
+overflow_mul-from c = omega (arith, fits (goal.at.overflow_mul-from c).In_ok-at)
 
 pub overflow_add-end : goal.overflow_add-end
 overflow_add-end c = omega (arith, fits (goal.at.overflow_add-end c).In_ok-at)
@@ -97,7 +97,7 @@ pub load-requires : goal.load-requires
 load-requires c =
     let k : c.in_ok-at.at * 16384 + 16384 - c.in_ok-at.at * 16384 ≡ 16384 = omega arith in
     let e : c.take_frame.new.o.cache ≡ c.args.o.now.cache = ap (λ (v : Overlay). v.cache) c.in_ok-at.ensures.ok.1 in
-    (rw e c.requires.fits.1.1.1, c.requires.fits.1.1.0, rw k (length_part (c.in_ok-at.at * 16384) 16384 c.args.frames.now (fits (goal.at.load-requires c).In_ok-at)), c.requires.within)
+    ((rw e c.requires.fits.1.1.1, c.requires.fits.1.1.0), rw k (length_part (c.in_ok-at.at * 16384) 16384 c.args.frames.now (fits (goal.at.load-requires c).In_ok-at)), c.requires.within)
 
 pub returns-clause-done : goal.returns-clause-done
 returns-clause-done c =
@@ -107,7 +107,8 @@ returns-clause-done c =
     let l : Buffers = bufs a.frames.now a.numbers.now a.clean.now a.«record».now in
     let x : LoadOut = load_laid 16384 8 a.o.now.cache a.clean.now (image_in 16384 a.stored.image a.stored.mem.now) (covers (runs_in a.o.now.recorded a.«record».now) a.page) a.page in
     let loaded : load_out c.load.new.c c.load.new.frame c.load.new.clean ≡ x =
-    c.load.ensures ∙ ap (λ (v : Overlay). load_laid 16384 8 v.cache a.clean.now (image_in 16384 a.stored.image a.stored.mem.now) (covers (runs_in v.recorded a.«record».now) a.page) a.page) ok.1 in
+    rw c.first-recorded.ensures at c.load.ensures
+    ∙ ap (λ (v : Overlay). load_laid 16384 8 v.cache a.clean.now (image_in 16384 a.stored.image a.stored.mem.now) (covers (runs_in v.recorded a.«record».now) a.page) a.page) ok.1 in
     put a.o.now t.o c.in_ok-at.at a.frames.now a.numbers.now t.numbers a.«record».now a.page t.o.budget c.load.new.c c.load.new.frame c.load.new.clean x _
     ok.0 ok.1 ok.2 loaded (fits (goal.at.returns-clause-done c).In_ok-at) c.load.auto.frame
     (load_new 16384 8 (omega arith) a.o.now l c.requires.fits 18446744073709551615 a.stored.image a.stored.mem.now a.page (new (goal.at.returns-clause-done c).In_default) t.o.budget

@@ -1,6 +1,6 @@
 -- `decimal::number` meets its contract: each return is a law of the definition.
 use Rattle.std.proofs.Common.{◌≡◌, ◌-◌, ℕ, sym, ap, ◌∙◌, get_or, arith}
-use Rattle.decimal.specs.Places.{numeral_in}
+use Rattle.decimal.specs.Places.{found_in}
 use Rattle.decimal.specs.Text.{is_digit}
 use Rattle.decimal.specs.Read.{digit_is, number_out, number_other, number_alone, number_on}
 use Rattle.decimal.proofs.read.number.Goals as goal
@@ -8,7 +8,7 @@ use Rattle.decimal.proofs.read.number.Goals as goal
 pub returns-in_err-first : goal.returns-in_err-first
 returns-in_err-first c =
     let past = c.in_err-first.ensures.lookup.3 in
-    ap (numeral_in c.args.text.now) c.from_residual.ensures ∙ sym (number_out c.args.text.now c.args.at (omega arith))
+    ap (found_in c.args.text.now) c.from_residual.ensures ∙ sym (number_out c.args.text.now c.args.at (omega arith))
 
 pub returns-then-not-is_ascii_digit : goal.returns-then-not-is_ascii_digit
 returns-then-not-is_ascii_digit c =

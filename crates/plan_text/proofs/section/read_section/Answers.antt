@@ -17,7 +17,7 @@ pub overflow_mul-used : goal.overflow_mul-used
 overflow_mul-used g c =
     let e = g.E.Entry in
     let m = g.met.E.Entry in
-    let w = ap (λ (x : ℕ). c.in_ok-lines.lines.count * x) c.WIDTH.ensures in
+    let w = ap (λ (x : ℕ). c.in_ok-lines.lines.value * x) c.WIDTH.ensures in
     let h = lines_used e.WIDTH e.numbers e.reading m.wide m.none m.more m.width c.args.key.now (from c.args.text.now c.args.at) c.args.out.now _ _ _ c.in_ok-lines.ensures in
     omega arith
 
@@ -25,7 +25,7 @@ pub slice_bounds-test-end : goal.slice_bounds-test-end
 slice_bounds-test-end g c =
     let e = g.E.Entry in
     let m = g.met.E.Entry in
-    let w = ap (λ (x : ℕ). c.in_ok-lines.lines.count * x) c.WIDTH.ensures in
+    let w = ap (λ (x : ℕ). c.in_ok-lines.lines.value * x) c.WIDTH.ensures in
     let h = lines_used e.WIDTH e.numbers e.reading m.wide m.none m.more m.width c.args.key.now (from c.args.text.now c.args.at) c.args.out.now _ _ _ c.in_ok-lines.ensures in
     omega arith
 
@@ -33,7 +33,7 @@ pub slice_bounds-test-end-2 : goal.slice_bounds-test-end-2
 slice_bounds-test-end-2 g c =
     let e = g.E.Entry in
     let m = g.met.E.Entry in
-    let w = ap (λ (x : ℕ). c.in_ok-lines.lines.count * x) c.WIDTH.ensures in
+    let w = ap (λ (x : ℕ). c.in_ok-lines.lines.value * x) c.WIDTH.ensures in
     let h = lines_used e.WIDTH e.numbers e.reading m.wide m.none m.more m.width c.args.key.now (from c.args.text.now c.args.at) c.args.out.now _ _ _ c.in_ok-lines.ensures in
     sym (length-take-le _ _ (omega arith))
 
@@ -41,7 +41,7 @@ pub returns-then-not-test : goal.returns-then-not-test
 returns-then-not-test g c ok says =
     let e = g.E.Entry in
     let m = g.met.E.Entry in
-    let w = ap (λ (x : ℕ). take (c.in_ok-lines.lines.count * x) c.read_lines.new.out) c.WIDTH.ensures in
+    let w = ap (λ (x : ℕ). take (c.in_ok-lines.lines.value * x) c.read_lines.new.out) c.WIDTH.ensures in
     lines_failed e.WIDTH e.numbers e.reading m.wide m.none m.more m.width c.args.key.now (from c.args.text.now c.args.at) c.args.out.now _ _ _ c.in_ok-lines.ensures ok false
     (λ xs z. says xs false (subst (λ (l : List ℕ). FnReturnsAt g.F.Fn c.args.test l false) (w ∙ z) (says_at g.F.Fn c.if-not-test.ensures refl))) refl
 
@@ -49,6 +49,6 @@ pub returns : goal.returns
 returns g c ok says =
     let e = g.E.Entry in
     let m = g.met.E.Entry in
-    let w = ap (λ (x : ℕ). take (c.in_ok-lines.lines.count * x) c.read_lines.new.out) c.WIDTH.ensures in
+    let w = ap (λ (x : ℕ). take (c.in_ok-lines.lines.value * x) c.read_lines.new.out) c.WIDTH.ensures in
     lines_passed e.WIDTH e.numbers e.reading m.wide m.none m.more m.width c.args.key.now (from c.args.text.now c.args.at) c.args.out.now _ _ _ c.in_ok-lines.ensures ok true
     (λ xs z. says xs true (subst (λ (l : List ℕ). FnReturnsAt g.F.Fn c.args.test l true) (w ∙ z) (says_at g.F.Fn c.if-not-test.ensures refl))) refl

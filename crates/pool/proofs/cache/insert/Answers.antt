@@ -18,8 +18,8 @@ use Rattle.pool.proofs.cache.insert.Goals.{After-make_room}
 few : (c : After-make_room) → (c.make_room.new.c.count < 8) × (131072 ≤ length c.make_room.new.clean)
 few c =
     let x = cache_out c.make_room.new.c c.make_room.new.clean in (
-      room_count 16384 8 c.args.c.now c.requires.0 c.args.clean.now x (omega arith) c.make_room.ensures,
-      omega (arith, c.requires.1, room-length 16384 8 c.args.c.now c.requires.0 c.args.clean.now x (omega arith) c.make_room.ensures),
+      room_count 16384 8 c.args.c.now c.requires.0.0 c.args.clean.now x (omega arith) c.make_room.ensures,
+      omega (arith, c.requires.0.1, room-length 16384 8 c.args.c.now c.requires.0.0 c.args.clean.now x (omega arith) c.make_room.ensures),
     )
 
 pub overflow_mul-from : goal.overflow_mul-from
@@ -55,4 +55,4 @@ returns c =
     let back : put_mid (n * 16384) k l new ≡ overwrite (n * 16384) (image_page 16384 (image_in 16384 a.stored.image a.stored.mem.now) a.page) l =
     part_back (n * 16384) k l new (ap length image ∙ length-image_page 16384 (image_in 16384 a.stored.image a.stored.mem.now) a.page ∙ sym e) fits ∙ ap (λ (y : List ℕ). overwrite (n * 16384) y l) image in
     ap (cache_out (record { pages = set c.make_room.new.c.pages n a.page; count = n + 1 })) back
-    ∙ laid_insert 16384 8 a.c.now c.requires.0 a.clean.now (cache_out c.make_room.new.c l) (omega arith) c.make_room.ensures (image_in 16384 a.stored.image a.stored.mem.now) a.page c.requires.1
+    ∙ laid_insert 16384 8 a.c.now c.requires.0.0 a.clean.now (cache_out c.make_room.new.c l) (omega arith) c.make_room.ensures (image_in 16384 a.stored.image a.stored.mem.now) a.page c.requires.0.1

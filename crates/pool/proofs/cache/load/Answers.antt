@@ -9,14 +9,18 @@ use Rattle.update.specs.declared.CleanCache.{CleanCache}
 use Rattle.update.specs.Buffers.{settled}
 use Rattle.pool.specs.PoolLaws.{found_at, found_none}
 use Rattle.memory.specs.Bytes.{zeros, resize, overwrite}
-use Rattle.runs.specs.Flat.{runs_in}
+use Rattle.meta.specs.Runs.{runs_of}
 use Rattle.runs.specs.Sets.{covers}
 use Rattle.update.specs.ListLaws.{copied, resize-take}
-use Rattle.update.specs.Pages.{place_of}
+use Rattle.update.specs.Pages.{place_of, drop_page}
 use Rattle.update.specs.Image.{image_in, image_page}
 use Rattle.update.specs.ImageLaws.{page_is}
-use Rattle.update.specs.Buffers.{cached}
-use Rattle.update.specs.Frames.{cache_out, load_out}
+use Rattle.update.specs.Buffers.{cached, clean_pages}
+use Rattle.update.specs.Frames.{cache_out, cache_laid, load_out}
+use borrow.Author.Rules.{rules}
+use Rattle.std.specs.Prelude.{false}
+use Rattle.pool.specs.Pool.{stays}
+use Rattle.pool.specs.WalkLaws.{retained_stays}
 use Rattle.pool.specs.CacheLaws.{settled-length, settled_most, settled_cached, load_covered, load_hit, load_miss}
 use Rattle.pool.proofs.cache.load.Goals as goal
 use Rattle.pool.proofs.cache.load.Goals.{In-Some}
@@ -32,36 +36,33 @@ frame-copied : (at : ℕ) (l f : List ℕ) → length f ≡ 16384 → at * 16384
     → overwrite 0 (take (length l - at * 16384) (drop (at * 16384) l)) f ≡ resize 16384 (drop (at * 16384) l)
 frame-copied at l f e h = copied (at * 16384) l f (omega arith) ∙ ap (λ (n : ℕ). take n (drop (at * 16384) l)) e ∙ sym (resize-take 16384 (drop (at * 16384) l) (omega (arith, length-drop (at * 16384) l)))
 
-pub returns-then-covered : goal.returns-then-covered
-returns-then-covered c =
+pub returns-then-covers_page : goal.returns-then-covers_page
+returns-then-covers_page c =
     let a = c.args in
-    ap (λ (f : List ℕ). load_out a.c.now f a.clean.now) (c.fill.ensures ∙ ap zeros c.requires.2)
-    ∙ load_covered 16384 8 a.c.now c.requires.0 a.clean.now (image_in 16384 a.stored.image a.stored.mem.now) (covers (runs_in a.recorded a.«record».now) a.page) a.page (sym c.covered.ensures ∙ c.if-covered.true)
+    ap (λ (f : List ℕ). load_out a.c.now f a.clean.now) (c.fill.ensures ∙ ap zeros c.requires.1)
+    ∙ load_covered 16384 8 a.c.now c.requires.0.0 a.clean.now (image_in 16384 a.stored.image a.stored.mem.now) (covers (runs_of a.recorded.numbers.now) a.page) a.page (sym c.covers_page.ensures ∙ c.if-covers_page.true)
 
-pub slice_bounds-numbers-end : goal.slice_bounds-numbers-end
-slice_bounds-numbers-end c = (used c.args.c.now c.requires.0).1
-
-pub slice_bounds-find-end : goal.slice_bounds-find-end
-slice_bounds-find-end c = sym (used c.args.c.now c.requires.0).0
+pub shared_ref_as_front-find : goal.shared_ref_as_front-find
+shared_ref_as_front-find c = (used c.args.c.now c.requires.0.0).2
 
 pub returns-in_default : goal.returns-in_default
 returns-in_default c =
     let a = c.args in
     let miss : length (take a.c.now.count a.c.now.pages) ≤ place_of (take a.c.now.count a.c.now.pages) a.page = found_none (take a.c.now.count a.c.now.pages) a.page c.in_default.ensures in
-    let same : place_of (cached 16384 8 a.c.now) a.page ≡ place_of (take a.c.now.count a.c.now.pages) a.page = ap (λ (ns : List ℕ). place_of ns a.page) (settled_cached 16384 8 a.c.now c.requires.0) in
+    let same : place_of (cached 16384 8 a.c.now) a.page ≡ place_of (take a.c.now.count a.c.now.pages) a.page = ap (λ (ns : List ℕ). place_of ns a.page) (settled_cached 16384 8 a.c.now c.requires.0.0) in
     let image : c.read_image.new.dst ≡ image_page 16384 (image_in 16384 a.stored.image a.stored.mem.now) a.page =
-    rw c.requires.2 at c.read_image.ensures ∙ page_is 16384 (omega arith) a.stored.image a.stored.mem.now a.page in
-    rw image (load_miss 16384 8 a.c.now c.requires.0 a.clean.now (image_in 16384 a.stored.image a.stored.mem.now) (covers (runs_in a.recorded a.«record».now) a.page) a.page (sym c.covered.ensures ∙ c.if-covered.false) (omega arith) c.requires.1
-    (omega (arith, miss, same, used a.c.now c.requires.0)))
+    rw c.requires.1 at c.read_image.ensures ∙ page_is 16384 (omega arith) a.stored.image a.stored.mem.now a.page in
+    rw image (load_miss 16384 8 a.c.now c.requires.0.0 a.clean.now (image_in 16384 a.stored.image a.stored.mem.now) (covers (runs_of a.recorded.numbers.now) a.page) a.page (sym c.covers_page.ensures ∙ c.if-covers_page.false) (omega arith) c.requires.0.1
+    (omega (arith, miss, same, used a.c.now c.requires.0.0)))
 
 -- the place found is a frame of the cache
 hit : (c : In-Some) → (c.in-Some.at ≡ place_of (cached 16384 8 c.args.c.now) c.args.page) × (c.in-Some.at < c.args.c.now.count) × (c.in-Some.at * 16384 + 16384 ≤ length c.args.clean.now)
 hit c =
     let a = c.args in
     let f = found_at (take a.c.now.count a.c.now.pages) a.page c.in-Some.at c.in-Some.ensures in
-    let u = used a.c.now c.requires.0 in
+    let u = used a.c.now c.requires.0.0 in
     let k : c.in-Some.at < a.c.now.count = omega (arith, f.1, u.0) in
-    (f.0 ∙ ap (λ (ns : List ℕ). place_of ns a.page) (sym (settled_cached 16384 8 a.c.now c.requires.0)), k, omega (arith, k, u.2, c.requires.1))
+    (f.0 ∙ ap (λ (ns : List ℕ). place_of ns a.page) (sym (settled_cached 16384 8 a.c.now c.requires.0.0)), k, omega (arith, k, u.2, c.requires.0.1))
 
 pub overflow_mul-from : goal.overflow_mul-from
 overflow_mul-from c = omega (arith, hit c)
@@ -79,7 +80,9 @@ returns c =
     let h = hit (goal.at.returns c).In-Some in
     let x = cache_out c.retain_clean.new.c c.retain_clean.new.clean in
     let frame : c.copy.new.dst ≡ resize 16384 (drop (place_of (cached 16384 8 a.c.now) a.page * 16384) l) =
-    c.copy.ensures ∙ frame-copied c.in-Some.at l a.frame.now c.requires.2 (omega (arith, h.2))
+    c.copy.ensures ∙ frame-copied c.in-Some.at l a.frame.now c.requires.1 (omega (arith, h.2))
     ∙ ap (λ (n : ℕ). resize 16384 (drop (n * 16384) l)) h.0 in
+    let left : x ≡ cache_laid 16384 8 a.c.now l (drop_page a.page (clean_pages 16384 8 a.c.now l)) =
+    c.retain_clean.ensures (stays false a.page) (λ n r says. search rules) ∙ ap (cache_laid 16384 8 a.c.now l) (retained_stays false a.page (clean_pages 16384 8 a.c.now l)) in
     ap (λ (f : List ℕ). load_out x.cache f x.clean) frame
-    ∙ load_hit 16384 8 a.c.now c.requires.0 l (image_in 16384 a.stored.image a.stored.mem.now) (covers (runs_in a.recorded a.«record».now) a.page) a.page x (sym c.covered.ensures ∙ c.if-covered.false) (omega arith) (omega (arith, h)) c.retain_clean.ensures
+    ∙ load_hit 16384 8 a.c.now c.requires.0.0 l (image_in 16384 a.stored.image a.stored.mem.now) (covers (runs_of a.recorded.numbers.now) a.page) a.page x (sym c.covers_page.ensures ∙ c.if-covers_page.false) (omega arith) (omega (arith, h)) left

@@ -12,11 +12,8 @@ use Rattle.pool.proofs.cache.settle.Goals.{Start}
 long : (c : Start) → length c.args.c.now.pages ≡ 8
 long c = search rules
 
-pub slice_bounds-pages-end : goal.slice_bounds-pages-end
-slice_bounds-pages-end c = omega (arith, long (goal.at.slice_bounds-pages-end c).Start)
-
 pub returns : goal.returns
 returns c =
-    let n = c.min-count.result in
-    let p = part_filled n (8 - n) c.args.c.now.pages (omega (arith, long (goal.at.returns c).Start, c.min-count.ensures)) in
-    rw (c.fill.ensures, p, c.min-count.ensures) (settled_least 16384 8 c.args.c.now (long (goal.at.returns c).Start))
+    let n = c.min-c.result in
+    let p = part_filled n (8 - n) c.args.c.now.pages (omega (arith, long (goal.at.returns c).Start, c.min-c.ensures)) in
+    rw (c.fill.ensures, p, c.min-c.ensures) (settled_least 16384 8 c.args.c.now (long (goal.at.returns c).Start))

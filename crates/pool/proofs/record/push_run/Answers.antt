@@ -6,11 +6,11 @@ use lib.ListN.{length-set}
 use Rattle.pool.specs.PoolLaws.{set_two, push_none, push_full, push_room}
 use Rattle.pool.proofs.record.push_run.Goals as goal
 
-pub returns-then-end-start : goal.returns-then-end-start
-returns-then-end-start c = sym (push_none _ _ _ _ c.if-end-start.true)
+pub returns-then-run : goal.returns-then-run
+returns-then-run c = sym (push_none _ _ _ _ c.if-run.true)
 
 pub returns-then-record-count : goal.returns-then-record-count
-returns-then-record-count c = sym (push_full _ _ _ _ c.if-end-start.false c.if-record-count.true)
+returns-then-record-count c = sym (push_full _ _ _ _ c.if-run.false c.if-record-count.true)
 
 pub bounds-record-count-2 : goal.bounds-record-count-2
 bounds-record-count-2 c = simp length-set (omega arith)
@@ -18,4 +18,4 @@ bounds-record-count-2 c = simp length-set (omega arith)
 pub returns : goal.returns
 returns c =
     let a = c.args in
-    rw (set_two a.«record».now (a.count * 2) a.start a.end (omega arith)) (sym (push_room _ _ _ _ c.if-end-start.false c.if-record-count.false))
+    rw (set_two a.«record».now (a.count * 2) a.run.start a.run.end (omega arith)) (sym (push_room _ _ _ _ c.if-run.false c.if-record-count.false))

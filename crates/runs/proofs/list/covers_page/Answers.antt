@@ -1,24 +1,15 @@
--- The runs from run i on have the page exactly if all have it.
-use Rattle.std.proofs.Common.{◌≡◌, ◌≤◌, false, sym, ◌∙◌, ⊎_elim, arith}
+-- `runs::covers_page` meets its contract: a list of runs has a page exactly if one of them has it.
+use Rattle.std.proofs.Common.{drop, ◌∙◌, rules, tests}
+use Rattle.std.proofs.lemmas.Iterator.Consumers.{YieldsList-from_first}
+use Rattle.std.proofs.lemmas.Iterator.Search.{any_from_yields_List}
 use Rattle.runs.specs.Sets.{within}
-use Rattle.runs.specs.Lists.{has_page, page-before, page-behind, run_has, run_lacks, none_has}
+use Rattle.runs.specs.Lists.{any_has}
 use Rattle.runs.proofs.list.covers_page.Goals as goal
 
-pub returns-then-page-x : goal.returns-then-page-x
-returns-then-page-x g c =
-    let l = g.L.RunList.runs c.args.list in
-    let x = c.get-x.result in
-    sym (run_has l c.loop-i.i x (omega arith) c.get-x.ensures c.args.page (has_page x c.args.page c.if-x-page.true c.if-page-x.true)) ∙ c.loop-i.invariant
-
-pub loop-i-preserved : goal.loop-i-preserved
-loop-i-preserved g c =
-    let l = g.L.RunList.runs c.args.list in
-    let p = c.args.page in
-    let x = c.get-x.result in
-    let missed : within x p ≡ false = ⊎_elim (λ (w : (x.start ≤ p) × (x.end ≤ p)). page-behind x p w.1) (page-before x p) c.else-x-page.either in
-    sym (run_lacks l c.loop-i.i x (omega arith) c.get-x.ensures p missed) ∙ c.loop-i.invariant
-
 pub returns : goal.returns
+unfolding within
 returns g c =
-    let l = g.L.RunList.runs c.args.list in
-    sym (none_has l c.loop-i.i (omega arith) c.args.page) ∙ c.loop-i.invariant
+    let p = c.args.page in
+    any_from_yields_List (λ x. within x p) _ _ _ c.any.ensures.ran (YieldsList-from_first (λ x. x) (λ it. drop it.next (g.L.RunList.runs it.list)) (g.L.RunList.runs c.args.list) c.iter.ensures)
+    (λ x b q k. search (rules, tests))
+    ∙ any_has (g.L.RunList.runs c.args.list) p

@@ -8,7 +8,7 @@ use Rattle.yuharopu.proofs.transfer_calls.yuharopu_checksum.Goals as goal
 pub returns-in_default : goal.returns-in_default
 returns-in_default c =
     let a = c.args in
-    λ b w. ask_none a.state.now a.answer.now c.in_default.ensures.state (lent a.mem.now b w) checksum
+    λ b w. rw c.number.ensures (ask_none a.state.now a.answer.now c.in_default.ensures.state (lent a.mem.now b w) checksum)
 
 pub returns : goal.returns
 returns c =

@@ -1,15 +1,7 @@
 -- `transfer_calls::yuharopu_finish_import` meets its contract.
+use Rattle.std.proofs.Common.{refl, rules}
 use Rattle.store.specs.Calls.{import_finish}
-use Rattle.transfer.specs.OnMemory.{lent}
-use Rattle.encoding.specs.Called.{call_none, call_some}
 use Rattle.yuharopu.proofs.transfer_calls.yuharopu_finish_import.Goals as goal
 
-pub returns-in_default : goal.returns-in_default
-returns-in_default c =
-    let a = c.args in
-    λ b w. call_none a.state.now a.answer.now c.in_default.ensures.state (lent a.mem.now b w) import_finish
-
 pub returns : goal.returns
-returns c =
-    let a = c.args in
-    λ b w. call_some a.state.now a.answer.now _ c.in-Some.ensures.state _ _ import_finish _ (c.finish_import-answered.ensures b w) c.show.ensures
+returns c = c.call_on_memory.ensures.calls import_finish (record { fills = refl; does = λ x x' r h. record { answer = _; alike = (refl, refl); made = search rules } })

@@ -7,7 +7,7 @@ use Rattle.yuharopu.proofs.update_calls.yuharopu_begin_update.Goals as goal
 pub returns-in_default : goal.returns-in_default
 returns-in_default c =
     let a = c.args in
-    λ l. call_none a.state.now a.answer.now c.in_default.ensures.state l (begin (is_set a.limited) a.max_pages a.max_bytes)
+    λ l. rw c.number.ensures (call_none a.state.now a.answer.now c.in_default.ensures.state l (begin (is_set a.limited) a.max_pages a.max_bytes))
 
 pub returns : goal.returns
 returns c =

@@ -6,7 +6,7 @@ use Rattle.yuharopu.proofs.update_calls.yuharopu_file_size.Goals as goal
 pub returns-in_default : goal.returns-in_default
 returns-in_default c =
     let a = c.args in
-    λ l. ask_none a.state.now a.answer.now c.in_default.ensures.state l file_size
+    λ l. rw c.number.ensures (ask_none a.state.now a.answer.now c.in_default.ensures.state l file_size)
 
 pub returns : goal.returns
 returns c =

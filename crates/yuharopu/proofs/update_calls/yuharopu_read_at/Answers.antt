@@ -8,7 +8,7 @@ use Rattle.yuharopu.proofs.update_calls.yuharopu_read_at.Goals as goal
 pub returns-in_default : goal.returns-in_default
 returns-in_default c =
     let a = c.args in
-    λ w. call_none a.state.now a.answer.now c.in_default.ensures.state (lent a.mem.now (bufs a.frames.now a.numbers.now a.clean.now a.«record».now) w) (read a.offset a.dst.now)
+    λ w. rw c.number.ensures (call_none a.state.now a.answer.now c.in_default.ensures.state (lent a.mem.now (bufs a.frames.now a.numbers.now a.clean.now a.«record».now) w) (read a.offset a.dst.now))
 
 pub returns : goal.returns
 returns c =

@@ -8,7 +8,7 @@ use Rattle.yuharopu.proofs.update_calls.yuharopu_rollback_update.Goals as goal
 pub returns-in_default : goal.returns-in_default
 returns-in_default c =
     let a = c.args in
-    λ m w. call_none a.state.now a.answer.now c.in_default.ensures.state (lent m (bufs a.frames.now a.numbers.now a.clean.now a.«record».now) w) rollback
+    λ m w. rw c.number.ensures (call_none a.state.now a.answer.now c.in_default.ensures.state (lent m (bufs a.frames.now a.numbers.now a.clean.now a.«record».now) w) rollback)
 
 pub returns : goal.returns
 returns c =

@@ -1,16 +1,9 @@
 -- `update_calls::yuharopu_write_at` meets its contract.
-use Rattle.update.specs.Laid.{bufs}
+use Rattle.std.proofs.Common.{refl, rules}
 use Rattle.store.specs.Calls.{write}
-use Rattle.transfer.specs.OnMemory.{lent}
-use Rattle.encoding.specs.Called.{call_none, call_some}
 use Rattle.yuharopu.proofs.update_calls.yuharopu_write_at.Goals as goal
-
-pub returns-in_default : goal.returns-in_default
-returns-in_default c =
-    let a = c.args in
-    call_none a.state.now a.answer.now c.in_default.ensures.state (lent a.mem.now (bufs a.frames.now a.numbers.now a.clean.now a.«record».now) a.work.now) (write a.offset a.bytes.now)
 
 pub returns : goal.returns
 returns c =
     let a = c.args in
-    call_some a.state.now a.answer.now _ c.in-Some.ensures.state _ _ (write a.offset a.bytes.now) _ c.write_at-answered.ensures c.show.ensures
+    c.call_on_all.ensures (write a.offset a.bytes.now) (record { fills = refl; does = λ x x' r h. search rules })
