@@ -1,4 +1,4 @@
-use Rattle.std.proofs.Common.{ℕ, ◌≡◌, ◌∙◌, List, [], ◌∷◌, drop, refl, sym, arith, rules}
+use Rattle.std.proofs.Common.{ℕ, ◌≡◌, ◌∙◌, List, [], ◌∷◌, sym}
 use Rattle.meta.specs.declared.ZeroExtent.{ZeroExtent}
 use Rattle.extents.specs.Plan.{Answer, add_one, add_each}
 use Rattle.extents.specs.Steps.{norm, told}
@@ -13,17 +13,6 @@ module _ (limit : ℕ) (left : List ZeroExtent) where
   none_left : (a b : Answer) → left ≡ [] → norm a ≡ a → norm (add_each limit left a) ≡ b → a ≡ b
   none_left a b e f h = sym f ∙ rw e at h
 
-pub loop-x-init : goal.loop-x-init
-loop-x-init g c =
-    let i = c.into_iter-x-iterator in
-    let first : drop i.result.next (g.L.RunList.runs i.result.list) ≡ g.L.RunList.runs c.args.«record» = search rules in
-    ((refl, refl), c.requires.most, rw first)
-
-pub add_within-requires : goal.add_within-requires
-add_within-requires g c =
-    let i = c.loop-x in
-    record { most = i.invariant.1; room = omega (arith, c.requires.room, i.invariant.0.1); tidy = i.set.tidy.1 }
-
 pub loop-x-preserved : goal.loop-x-preserved
 loop-x-preserved g c =
     let a = c.args in
@@ -36,9 +25,6 @@ loop-x-preserved g c =
       d.ensures.added.most,
       first_added a.limit _ x.x _ (told a.limit s.count s.work.now) (told a.limit t.count t.work.now) x.ensures.steps d.ensures.added.says ∙ i.invariant.2,
     )
-
-pub returns-clause-same : goal.returns-clause-same
-returns-clause-same g c = c.loop-x.invariant.0
 
 pub returns-clause-added : goal.returns-clause-added
 returns-clause-added g c =

@@ -14,15 +14,6 @@ counted c = c.count-n.ensures ∙ stored_count c.args.count c.args.mem.now c.sto
 whole : (c : After-count-n) → length (take (c.count-n.result * 2) c.args.out.now) ≡ c.count-n.result * 2
 whole c = length-take (c.count-n.result * 2) c.args.out.now ∙ omega (arith, counted c, image_most c.args.count c.args.mem.now, c.requires)
 
-pub overflow_mul-n : goal.overflow_mul-n
-overflow_mul-n c = omega (arith, counted c, image_most c.args.count c.args.mem.now)
-
-pub slice_bounds-read_into-end : goal.slice_bounds-read_into-end
-slice_bounds-read_into-end c = omega (arith, counted c, image_most c.args.count c.args.mem.now, c.requires)
-
-pub slice_bounds-read_into-end-2 : goal.slice_bounds-read_into-end-2
-slice_bounds-read_into-end-2 c = sym (whole (goal.at.slice_bounds-read_into-end-2 c).After-count-n)
-
 pub read_into-requires : goal.read_into-requires
 read_into-requires c =
     let b = c.stored-stored.result.bytes.now in

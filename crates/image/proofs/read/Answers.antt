@@ -1,16 +1,9 @@
 -- `image::read` meets its contract: the bytes below the size are read, and those past it are zeros.
-use Rattle.std.proofs.Common.{◌≡◌, ap, ◌∙◌, arith, ℕ, ◌-◌, ◌≤◌, min, length, take, length-take, rules}
+use Rattle.std.proofs.Common.{◌≡◌, ap, ◌∙◌, arith, ℕ, ◌-◌, min, length, take, length-take}
 use Rattle.update.specs.Lists.{tabulate_from}
 use Rattle.update.specs.Image.{image_in}
 use Rattle.image.specs.ImageReads.{read_both}
 use Rattle.image.proofs.read.Goals as goal
-
-pub read_pages-requires : goal.read_pages-requires
-read_pages-requires c =
-    let a = c.args in
-    let size : a.stored.image.size ≤ 18446744073709551615 = search rules in
-    let offset : a.offset ≤ 18446744073709551615 = search rules in
-    omega (arith, length-take c.below_size-n.result a.dst.now, c.below_size-n.ensures, size, offset)
 
 pub returns : goal.returns
 returns c =

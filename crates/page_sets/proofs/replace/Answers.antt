@@ -1,4 +1,4 @@
-use Rattle.std.proofs.Common.{ℕ, ◌+◌, ◌≤◌, ◌<◌, ◌≡◌, ◌∙◌, ◌∷◌, List, sym, ap, arith}
+use Rattle.std.proofs.Common.{ℕ, ◌+◌, ◌<◌, ◌≡◌, ◌∙◌, ◌∷◌, List, sym}
 use Rattle.meta.specs.declared.ZeroExtent.{ZeroExtent}
 use Rattle.runs.specs.Flat.{Out, upto, put, write}
 use Rattle.runs.specs.FlatLaws.{put_step}
@@ -9,15 +9,7 @@ module _ (w : List ℕ) (i j n : ℕ) (x : ZeroExtent) (o : Out) where
   some-met : (w' : List ℕ) → i < j → w' ≡ put w i x → o ≡ write w' (i + 1) (upto w' j n) → o ≡ write w i (x ∷ upto w j n)
   some-met w' k q t = t ∙ rw q (sym (put_step w i j n x k))
 
-  none-met : i ≤ j → j ≤ i → o ≡ write w i (x ∷ upto w i n) → o ≡ write w i (x ∷ upto w j n)
-  none-met k l t = let same : i ≡ j = omega arith in t ∙ ap (λ (k : ℕ). write w i (x ∷ upto w k n)) same
-
 pub returns-then-i-met : goal.returns-then-i-met
 returns-then-i-met c =
     let a = c.args in
     some-met a.work.now a.i a.met.next a.count a.met.run _ _ c.if-i-met.true c.store.ensures c.close.ensures
-
-pub returns-else-i-met : goal.returns-else-i-met
-returns-else-i-met c =
-    let a = c.args in
-    none-met a.work.now a.i a.met.next a.count a.met.run _ c.requires.0 c.if-i-met.false c.«open».ensures

@@ -18,9 +18,6 @@ loop-start-init c = record {
       (ap (map pair) c.as_chunks.ensures.front ∙ pairs_are (length l / 2) l refl);
 }
 
-pub put_run-requires : goal.put_run-requires
-put_run-requires c = omega (arith, c.loop-start.invariant.room, c.loop-start-test.true)
-
 pub loop-start-preserved : goal.loop-start-preserved
 loop-start-preserved c =
     let l = c.loop-start in

@@ -93,12 +93,6 @@ overflow_add-end c = omega (arith, fits (goal.at.overflow_add-end c).In_ok-at)
 pub slice_bounds-load-end : goal.slice_bounds-load-end
 slice_bounds-load-end c = omega (arith, fits (goal.at.slice_bounds-load-end c).In_ok-at)
 
-pub load-requires : goal.load-requires
-load-requires c =
-    let k : c.in_ok-at.at * 16384 + 16384 - c.in_ok-at.at * 16384 ≡ 16384 = omega arith in
-    let e : c.take_frame.new.o.cache ≡ c.args.o.now.cache = ap (λ (v : Overlay). v.cache) c.in_ok-at.ensures.ok.1 in
-    ((rw e c.requires.fits.1.1.1, c.requires.fits.1.1.0), rw k (length_part (c.in_ok-at.at * 16384) 16384 c.args.frames.now (fits (goal.at.load-requires c).In_ok-at)), c.requires.within)
-
 pub returns-clause-done : goal.returns-clause-done
 returns-clause-done c =
     let a = c.args in

@@ -1,17 +1,16 @@
 -- `writing::write_pages` meets its contract: the bytes that are left, written on, come to what all of them were to come to.
 use mathlib.Core.Path.{◌≡◌, ◌∙◌}
-use Prim.Native.Nat.{ℕ, ◌+◌, ◌-◌, ◌/◌, ◌%◌, ◌≤◌, ◌<◌, min}
+use Prim.Native.Nat.{ℕ, ◌+◌, ◌-◌, ◌/◌, ◌%◌, ◌<◌, min}
 use native.Mathlib.Omega.{arith}
 use mathlib.Core.Bool.{true}
 use lib.ListN.{length, take, drop}
 use borrow.Author.Rules.{rules}
 use Rattle.std.proofs.lemmas.Result.{err_from_is_err_and}
-use Rattle.memory.specs.Laws.{length_part}
 use Rattle.update.specs.Update.{copy}
 use Rattle.update.specs.Laid.{bufs, touched}
 use Rattle.update.specs.LeaveLaws.{told}
 use Rattle.update.specs.FitLaws.{touched_fits}
-use Rattle.writing.specs.WriteLaws.{pages_all, pages_next, pages_stop, pages_aligned, pages_done}
+use Rattle.writing.specs.WriteLaws.{pages_next, pages_stop, pages_aligned, pages_done}
 use Rattle.writing.proofs.write_pages.Goals as goal
 use Rattle.writing.proofs.write_pages.Goals.{After-write_part}
 
@@ -34,32 +33,6 @@ first c =
     let o : a.offset + x.done ≡ c.in-Some.at = omega (arith, c.in-Some.ensures.steps.1, x.invariant.at) in
     let k : n ≡ x.done + n - x.done = omega arith in
     λ j. touched 16384 8 18446744073709551615 a.stored.image a.stored.mem.now x.o (bufs x.frames x.numbers x.clean a.«record».now) true (copy 16384 (o j) (take (k j) (drop x.done a.bytes.now))) (o j / 16384)
-
-pub loop-at-init : goal.loop-at-init
-loop-at-init c =
-    let a = c.args in
-    let i = c.into_iter-at-iterator in
-    let at : i.result.at ≡ a.offset = λ j. (i.ensures.into_iter_gives j).at in
-    let end : i.result.end ≡ a.offset + length a.bytes.now = λ j. (i.ensures.into_iter_gives j).end in
-    record {
-      at = omega (arith, at);
-      within = omega (arith, at, end);
-      end = end;
-      aligned = λ h _. omega (arith, h);
-      frames = search rules;
-      numbers = search rules;
-      clean = search rules;
-      fits = c.requires.0;
-      written = pages_all 16384 8 (omega arith) _ _ c.requires.0 _ _ _ _ _;
-    }
-
-pub write_part-requires : goal.write_part-requires
-write_part-requires c =
-    let x = c.loop-at in
-    let s = c.in-Some.ensures.steps in
-    let n : ℕ = c.in-Some.n in
-    let fit : x.done + (x.done + n - x.done) ≤ length c.args.bytes.now = omega (arith, s.0, s.2, x.invariant.at, x.invariant.end) in
-    (x.invariant.fits, omega (arith, length_part x.done (x.done + n - x.done) c.args.bytes.now fit, s.1, s.2))
 
 pub returns-in_err-write_part : goal.returns-in_err-write_part
 returns-in_err-write_part c =

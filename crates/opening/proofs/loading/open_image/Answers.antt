@@ -18,12 +18,6 @@ returns-then-count-eq0 c =
     let held : a.count.0 * 65536 ≤ length a.mem.now = leb-true _ _ (sym c.is_lent.ensures ∙ c.if-not-is_lent.false) in
     ap (λ (n : ℕ). opened_as n c.open_fresh.result c.open_fresh.new.mem) c.if-count-eq0.true ∙ c.open_fresh.ensures ∙ sym (open_fresh_lem a.count.0 a.mem.now held c.if-count-eq0.true)
 
-pub load-requires : goal.load-requires
-load-requires c =
-    let a = c.args in
-    let held : a.count.0 * 65536 ≤ length a.mem.now = leb-true _ _ (sym c.is_lent.ensures ∙ c.if-not-is_lent.false) in
-    omega (arith, held, c.if-count-eq0.false)
-
 pub returns-in_err-block : goal.returns-in_err-block
 returns-in_err-block c =
     let a = c.args in

@@ -28,9 +28,6 @@ loop-x-init g c =
     let o = c.of-set in
     ((refl, refl), omega (arith, ap length first, o.ensures.runs.0), rw (first, o.ensures.runs.0, o.ensures.runs.1) (none_gathered l c.args.work.now))
 
-pub add-requires : goal.add-requires
-add-requires g c = omega (arith, c.requires, c.loop-x.invariant.0.1, c.loop-x.invariant.1, ap length c.in-Some.ensures.steps)
-
 pub loop-x-preserved : goal.loop-x-preserved
 loop-x-preserved g c =
     let i = c.loop-x in
@@ -43,12 +40,6 @@ loop-x-preserved g c =
       omega (arith, i.invariant.1, ap length x.ensures.steps, add_count w t.work.now s.count t.count s.tidy.0 s.tidy.1 x.x d.ensures.runs),
       gathered x.x _ _ (runs_in s.count w) (runs_in t.count t.work.now) x.ensures.steps (held_runs w t.work.now t.count (maximal (x.x ∷ runs_in s.count w)) d.ensures.runs) ∙ i.invariant.2,
     )
-
-pub returns-clause-same : goal.returns-clause-same
-returns-clause-same g c =
-    let i = c.loop-x in
-    let o = c.of-set in
-    (i.invariant.0.0 ∙ o.ensures.same.0, i.invariant.0.1 ∙ o.ensures.same.1)
 
 pub returns-clause-runs : goal.returns-clause-runs
 returns-clause-runs g c =

@@ -1,13 +1,8 @@
 -- `plan_text::read_lines` meets its contract. The loop's invariant: the lines from here on, into the buffer as it is, make what all lines make of the buffer at the start.
 use Rattle.std.proofs.Common.{◌≡◌, ℕ, sym, ap, ◌∙◌, ◌<◌, ◌+◌, ◌-◌, ◌*◌, ◌/◌, length, arith}
 use Rattle.decimal.specs.Text.{from}
-use Rattle.plan_text.specs.Entries.{line_fits, lines_start, lines_end, lines_full, lines_bad, lines_go}
+use Rattle.plan_text.specs.Entries.{line_fits, lines_end, lines_full, lines_bad, lines_go}
 use Rattle.plan_text.proofs.section.read_lines.Goals as goal
-
-pub loop-count-init : goal.loop-count-init
-loop-count-init g c =
-    let e = g.E.Entry in
-    lines_start e.WIDTH e.numbers e.reading c.args.key.now (from c.args.text.now c.args.at) c.args.out.now (length c.args.out.now / e.WIDTH)
 
 pub returns-in_default : goal.returns-in_default
 returns-in_default g c =

@@ -1,41 +1,29 @@
 -- `plan_text::read_section` meets its contract: the buffer's first numbers are those of the lines that were read.
-use Rattle.std.proofs.Common.{refl, true, false, ℕ, List, ◌*◌, take, sym, ap, ◌∙◌, subst, arith}
+use Rattle.std.proofs.Common.{refl, true, false, ℕ, List, ◌*◌, ◌≤◌, length, take, sym, ap, ◌∙◌, subst, arith}
 use lib.Seq.{length-take-le}
 use Rattle.std.specs.Fn.{FnReturnsAt}
 use Rattle.std.proofs.lemmas.Fn.{says_at}
 use Rattle.decimal.specs.Text.{from}
-use Rattle.plan_text.specs.Entries.{lines_broken, lines_used, lines_passed, lines_failed}
+use Rattle.plan_text.specs.Entries.{lines_used, lines_passed, lines_failed}
+use Rattle.plan_text.proofs.section.read_section.Given.{Over}
 use Rattle.plan_text.proofs.section.read_section.Goals as goal
+use Rattle.plan_text.proofs.section.read_section.Goals.{In_ok-lines}
 
-pub returns-in_err-lines : goal.returns-in_err-lines
-returns-in_err-lines g c ok says =
+-- the numbers of the lines lie in the buffer
+used : (g : Over) (c : In_ok-lines g) → c.in_ok-lines.lines.value * g.E.Entry.WIDTH ≤ length c.args.out.now
+used g c =
     let e = g.E.Entry in
     let m = g.met.E.Entry in
-    rw c.from_residual.ensures (lines_broken e.WIDTH e.numbers e.reading m.wide m.none m.more m.width c.args.key.now (from c.args.text.now c.args.at) c.args.out.now _ ok c.in_err-lines.ensures)
+    lines_used e.WIDTH e.numbers e.reading m.wide m.none m.more m.width c.args.key.now (from c.args.text.now c.args.at) c.args.out.now _ _ _ c.in_ok-lines.ensures
 
 pub overflow_mul-used : goal.overflow_mul-used
-overflow_mul-used g c =
-    let e = g.E.Entry in
-    let m = g.met.E.Entry in
-    let w = ap (λ (x : ℕ). c.in_ok-lines.lines.value * x) c.WIDTH.ensures in
-    let h = lines_used e.WIDTH e.numbers e.reading m.wide m.none m.more m.width c.args.key.now (from c.args.text.now c.args.at) c.args.out.now _ _ _ c.in_ok-lines.ensures in
-    omega arith
+overflow_mul-used g c = omega (arith, used g (goal.at.overflow_mul-used g c).In_ok-lines, ap (λ (x : ℕ). c.in_ok-lines.lines.value * x) c.WIDTH.ensures)
 
 pub slice_bounds-test-end : goal.slice_bounds-test-end
-slice_bounds-test-end g c =
-    let e = g.E.Entry in
-    let m = g.met.E.Entry in
-    let w = ap (λ (x : ℕ). c.in_ok-lines.lines.value * x) c.WIDTH.ensures in
-    let h = lines_used e.WIDTH e.numbers e.reading m.wide m.none m.more m.width c.args.key.now (from c.args.text.now c.args.at) c.args.out.now _ _ _ c.in_ok-lines.ensures in
-    omega arith
+slice_bounds-test-end g c = omega (arith, used g (goal.at.slice_bounds-test-end g c).In_ok-lines, ap (λ (x : ℕ). c.in_ok-lines.lines.value * x) c.WIDTH.ensures)
 
 pub slice_bounds-test-end-2 : goal.slice_bounds-test-end-2
-slice_bounds-test-end-2 g c =
-    let e = g.E.Entry in
-    let m = g.met.E.Entry in
-    let w = ap (λ (x : ℕ). c.in_ok-lines.lines.value * x) c.WIDTH.ensures in
-    let h = lines_used e.WIDTH e.numbers e.reading m.wide m.none m.more m.width c.args.key.now (from c.args.text.now c.args.at) c.args.out.now _ _ _ c.in_ok-lines.ensures in
-    sym (length-take-le _ _ (omega arith))
+slice_bounds-test-end-2 g c = sym (length-take-le _ _ (omega (arith, used g (goal.at.slice_bounds-test-end-2 g c).In_ok-lines, ap (λ (x : ℕ). c.in_ok-lines.lines.value * x) c.WIDTH.ensures)))
 
 pub returns-then-not-test : goal.returns-then-not-test
 returns-then-not-test g c ok says =

@@ -1,14 +1,8 @@
 -- `pool::image::read_stored` meets its contract: of the memory up to the image's end, what lies behind the offset, then zeros.
 use mathlib.Core.Path.{◌∙◌}
-use native.Mathlib.Omega.{arith}
-use lib.ListN.{length, length-take}
+use lib.ListN.{length}
 use Rattle.pool.specs.Stored.{stored_read}
 use Rattle.pool.proofs.image.read_stored.Goals as goal
-
-pub slice_bounds-read-end : goal.slice_bounds-read-end
-slice_bounds-read-end c =
-    let end = c.reach-end in
-    omega (arith, end.ensures, length-take end.result c.args.stored.mem.now)
 
 pub returns : goal.returns
 returns c =

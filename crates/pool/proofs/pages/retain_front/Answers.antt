@@ -3,7 +3,7 @@ use mathlib.Core.Path.{sym, ◌∙◌}
 use native.Mathlib.Omega.{arith}
 use borrow.Author.Rules.{rules}
 use Rattle.update.specs.Frames.{pool}
-use Rattle.pool.specs.PoolLaws.{front_step, front_end}
+use Rattle.pool.specs.PoolLaws.{front_step}
 use Rattle.pool.proofs.pages.retain_front.Goals as goal
 
 pub loop-i-preserved : goal.loop-i-preserved
@@ -16,8 +16,3 @@ loop-i-preserved g c =
       search rules,
       λ p says. sym (front_step 16384 p c.loop-i.numbers c.loop-i.frames c.loop-i.i c.loop-i.to a.count (omega arith) y (x.ensures.moved p says)) ∙ c.loop-i.invariant.3 p says,
     )
-
-pub returns-clause-moved : goal.returns-clause-moved
-returns-clause-moved g c p says =
-    let a = c.args in
-    sym (front_end 16384 p c.loop-i.numbers c.loop-i.frames c.loop-i.i c.loop-i.to a.count (omega arith)) ∙ c.loop-i.invariant.3 p says

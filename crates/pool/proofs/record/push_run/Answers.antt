@@ -2,7 +2,6 @@
 use mathlib.Core.Path.{sym}
 use Prim.Native.Nat.{◌*◌}
 use native.Mathlib.Omega.{arith}
-use lib.ListN.{length-set}
 use Rattle.pool.specs.PoolLaws.{set_two, push_none, push_full, push_room}
 use Rattle.pool.proofs.record.push_run.Goals as goal
 
@@ -11,9 +10,6 @@ returns-then-run c = sym (push_none _ _ _ _ c.if-run.true)
 
 pub returns-then-record-count : goal.returns-then-record-count
 returns-then-record-count c = sym (push_full _ _ _ _ c.if-run.false c.if-record-count.true)
-
-pub bounds-record-count-2 : goal.bounds-record-count-2
-bounds-record-count-2 c = simp length-set (omega arith)
 
 pub returns : goal.returns
 returns c =

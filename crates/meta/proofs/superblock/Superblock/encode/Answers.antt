@@ -1,14 +1,10 @@
 -- `meta::Superblock::encode` meets its contract: the parts of a block, written one behind the other.
-use Rattle.std.proofs.Common.{ℕ, List, ◌++◌, ap, ◌∙◌, length, arith, length-take}
+use Rattle.std.proofs.Common.{ℕ, List, ◌++◌, ap, ◌∙◌, length, arith}
 use Rattle.words.specs.Words.{words}
 use Rattle.meta.specs.Block.{header_of, header, block_bytes}
 use Rattle.memory.specs.Bytes.{overwrite}
 use Rattle.meta.specs.BlockLaws.{encode_parts}
 use Rattle.meta.proofs.superblock.Superblock.encode.Goals as goal
-
-pub write_words-requires-2 : goal.write_words-requires-2
-write_words-requires-2 c = let s = c.args in
-    simp length-take (omega (arith, c.min-fit.ensures, c.write_words.auto.bytes, c.write_word-2.auto.bytes, c.write_word.auto.bytes, c.requires))
 
 pub returns : goal.returns
 unfolding block_bytes header
