@@ -9,7 +9,7 @@ ghost use Rattle.store.specs.Calls.{mode_of, buffers_short, short, commit};
 ghost use Rattle.store.specs.Store.{budget_of, ended};
 ghost use Rattle.transfer.specs.OnMemory.{lent};
 
-use config::{PAGE_LEN, StablePages};
+use config::StablePages;
 use meta::Superblock;
 use store::State;
 use update::{Budget, CleanCache, Overlay};
@@ -22,9 +22,7 @@ pub fn budget_of(limited: bool, max_pages: u64, max_bytes: u64) -> Budget
         limited,
         max_pages,
         max_bytes,
-        passed: 0,
-        peak_pages: 0,
-        peak_bytes: 0,
+        ..Budget::default()
     }
 }
 
@@ -36,7 +34,7 @@ pub fn ended(count: StablePages, block: Superblock) -> State
         count,
         block,
         updating: false,
-        overlay: Overlay::new(0, budget_of(false, 0, 0)),
+        overlay: Overlay::new(0, Budget::default()),
     }
 }
 
@@ -47,7 +45,7 @@ pub fn are_short(s: &State, frames: &[u8], numbers: &[u64], clean: &[u8], record
     if s.updating {
         return overlay::are_short(s.overlay, frames, numbers, clean, record);
     }
-    clean.len() < CleanCache::CAPACITY * PAGE_LEN
+    clean.len() < CleanCache::FRAMES_LEN
 }
 
 // 35 for all that a call can be lent.

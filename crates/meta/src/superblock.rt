@@ -6,7 +6,7 @@ use fnv::fnv1a64;
 use words::{read_word, read_words, write_word, write_words};
 
 // The zero runs are not among the fields: they stay in the bytes, or in a list of numbers.
-#[derive(Clone, Copy, Debug, PartialEq, Eq)]
+#[derive(Clone, Copy, Debug, Default, PartialEq, Eq)]
 pub struct Superblock {
     // "ICSQLITE", read as a little-endian number
     pub magic: u64,
@@ -107,6 +107,7 @@ impl Superblock {
     }
 
     // The block of the fields in that order, and of what stands before them.
+    // By places: a pattern of 18 names would say each field twice.
     fn of_fields(magic: u64, version: u32, sqlite_page_size: u32, fields: &[u64]) -> Superblock
         requires { 18 ≤ length fields.now }
         ensures { result ≡ of_fields magic version sqlite_page_size fields.now }
@@ -203,25 +204,10 @@ impl Superblock {
         let block = Superblock {
             magic: Superblock::MAGIC,
             version: Superblock::VERSION,
-            sqlite_page_size: 16_384,
-            db_size: 0,
-            schema_version: 0,
-            last_tx_id: 0,
-            flags: 0,
-            checksum: 0,
-            import_expected_checksum: 0,
-            import_written_until: 0,
-            import_total_size: 0,
-            import_base_offset: 0,
-            checksum_refresh_offset: 0,
-            checksum_refresh_hash: 0,
-            checksum_refresh_tx_id: 0,
+            sqlite_page_size: config::SQLITE_PAGE_SIZE as u32,
             db_base_offset: config::DB_REGION_OFFSET,
-            page_table_offset: 0,
-            page_count: 0,
             layout_version: Superblock::LAYOUT_VERSION,
-            zero_extent_count: 0,
-            meta_checksum: 0,
+            ..Superblock::default()
         };
         block.seal(&[], &mut bytes)
     }

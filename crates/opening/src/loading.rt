@@ -43,8 +43,7 @@ fn is_outside(b: Superblock, end: u64) -> bool
 fn not_opened(count: StablePages) -> State
     ensures { result ≡ ended 16384 65536 8 1024 18446744073709551615 real_codec count.0 no_block }
 {
-    let none = Superblock::of_numbers(&[0u64; Superblock::NUMBERS]);
-    lending::ended(count, none)
+    lending::ended(count, Superblock::default())
 }
 
 // "at count 0 it stores a fresh superblock, or answers 32 if the ceiling is 0"

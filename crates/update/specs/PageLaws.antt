@@ -18,7 +18,7 @@ use Rattle.config.specs.Pages.{page_at}
 
 -- ## Runs
 
-within_lo : (a e q : ℕ) → q < a → within (run a e) q ≡ false
+pub within_lo : (a e q : ℕ) → q < a → within (run a e) q ≡ false
 within_lo a e q h = split (within (run a e) q) (λ t. absurd (omega (arith, within_has (run a e) q t))) (λ f. f)
 
 -- every run ends at M or before

@@ -29,9 +29,9 @@ pub struct Frames<'a> {
     pub numbers: &'a [u64],
 }
 
-// "The cache's page numbers are an array inside its struct": the oldest inserted first. Numbers from `count` on are 0.
+// "The cache's page numbers are an array inside its struct": the oldest inserted first. Once a call has settled it, numbers from `count` on are 0.
 // The count stands beside the array: any bytes are a state of the C interface, so a count above 8 comes in too.
-#[derive(Clone, Copy, Debug, PartialEq, Eq)]
+#[derive(Clone, Copy, Debug, Default, PartialEq, Eq)]
 pub struct CleanCache {
     pub pages: [u64; CleanCache::CAPACITY],
     pub count: usize,
@@ -40,10 +40,13 @@ pub struct CleanCache {
 impl CleanCache {
     // How many pages it holds.
     pub const CAPACITY: usize = 8;
+
+    // How long its frames are.
+    pub const FRAMES_LEN: usize = CleanCache::CAPACITY * config::PAGE_LEN;
 }
 
 // The budget of an update, if it is limited, and how far it was used.
-#[derive(Clone, Copy, Debug, PartialEq, Eq)]
+#[derive(Clone, Copy, Debug, Default, PartialEq, Eq)]
 pub struct Budget {
     // A flag beside the limits: any bytes are a state of the C interface, and limits that do not count go out as they came in.
     pub limited: bool,
@@ -76,16 +79,12 @@ impl Overlay {
     pub fn new(base_size: u64, budget: Budget) -> Self
         ensures { result ≡ overlay_of 16384 8 base_size (fresh 16384 base_size budget) }
     {
-        let cache = CleanCache {
-            pages: [0; CleanCache::CAPACITY],
-            count: 0,
-        };
         Overlay {
             base_size,
             size: base_size,
             dirty: 0,
             recorded: 0,
-            cache,
+            cache: CleanCache::default(),
             budget,
         }
     }

@@ -1,7 +1,7 @@
 -- `meta::Superblock::fresh` meets its contract.
-use mathlib.Core.Path.{refl, ap}
+use Rattle.std.proofs.Common.{◌≡◌, [], rules, refl, ap}
 use Rattle.memory.specs.Bytes.{filled}
-use Rattle.meta.specs.Block.{fresh as freshBlock}
+use Rattle.meta.specs.Block.{of_fields, fresh as freshBlock}
 use Rattle.meta.specs.Stored.{Outcome}
 use Rattle.meta.proofs.superblock.Superblock.fresh.Goals as goal
 
@@ -11,4 +11,6 @@ seal-requires c = refl
 
 pub returns : goal.returns
 unfolding freshBlock
-returns c = ap (λ (o : Outcome). o.block) c.seal.ensures
+returns c =
+    let none : c.default.result ≡ of_fields 0 0 0 [] = search rules in
+    rw none at (ap (λ (o : Outcome). o.block) c.seal.ensures)
