@@ -10,14 +10,14 @@ use config::PAGE_LEN;
 use update::{CleanCache, Overlay};
 
 // Whether a slice is shorter than what it holds, or the clean frames are under eight pages.
-// No `Frames` here: most callers hold the slices to change them, and one made for this call alone is no plainer.
+// No `Frames` here: callers that hold the slices to change them would make one for this call alone.
 #[tactic(auto, unfolding(update::specs::Buffers::short_buffers, update::specs::Buffers::frame_count))]
 pub fn are_short(o: Overlay, frames: &[u8], numbers: &[u64], clean: &[u8], record: &[u64]) -> bool
     ensures { result ≡ short_buffers 16384 8 o (bufs frames.now numbers.now clean.now «record».now) }
 {
     touch::frame_count(frames, numbers) < o.dirty
         || record.len() / 2 < o.recorded
-        || clean.len() < CleanCache::CAPACITY * PAGE_LEN
+        || clean.len() < CleanCache::FRAMES_LEN
 }
 
 // The overlay as every call leaves it: its cache has no number past its count.

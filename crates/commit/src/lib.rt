@@ -54,7 +54,7 @@ fn required_end(base: u64, size: u64, numbers: &[u64]) -> Option<u64>
         .try_fold(end, |end, page| further(end, base, *page, pages.0))
 }
 
-// Where a page starts in memory, or its length where that is less.
+// Where a page starts in memory, or its length where that is less. `pool::reach` bounds a sum alone, and is of a crate that this one does not know.
 fn page_start(base: u64, page: u64, len: usize) -> usize
     ensures { result ≡ min (base + page * 16384) len }
 {

@@ -38,7 +38,7 @@ pub fn numbers_of(o: Overlay) -> [u64; OVERLAY_NUMBERS]
     numbers
 }
 
-// A limit that is not 0 is one.
+// A limit that is not 0 is one. By places: a pattern of 19 names would say each field twice.
 pub fn overlay_of(n: &[u64]) -> Overlay
     requires { 19 ≤ length n.now }
     ensures { result ≡ overlay_of n.now }

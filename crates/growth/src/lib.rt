@@ -1,4 +1,5 @@
-// Growth of the file of an update.
+// Growth of the file of an update. Three functions zero a part of a page that is cut by a size, two here and `truncation::zero_tail`: each has bounds and
+// refusals of its own, and what they share is `touch::zero_part`.
 // The lent slices are parameters of their own, as `update::Stored` says.
 #![tactic(auto)]
 
@@ -60,13 +61,13 @@ fn zero_new_end(
     }
     let page = config::page_no(new);
     let before = config::page_no(old);
-    if page.0 == before.0 {
+    if page == before {
         return Ok(());
     }
     touch::zero_part(o, stored, frames, numbers, clean, record, page.0, 0, within)
 }
 
-// The file grows to `new` bytes: the new pages are recorded, then its old and its new end become zeros. Refused, all but the size stays as it is then.
+// The file grows to `new` bytes: the new pages are recorded, then its old and its new end become zeros. Refused, what was done stays, the new size too: the callers put the old one back.
 pub fn grow(
     o: &mut Overlay,
     stored: Stored<'_>,

@@ -15,7 +15,7 @@ use Rattle.runs.specs.Lists.{length-runs_of, length-stored}
 use Rattle.image_runs.specs.Image.{image_count, image_numbers, image_runs, length-image, words_runs}
 use Rattle.update.specs.declared.Image.{Image}
 use Rattle.update.specs.Lists.{tabulate_from}
-use Rattle.update.specs.ListLaws.{tabulate_from-at, length-tabulate_from}
+use Rattle.update.specs.ListLaws.{tabulate_from-at, length-tabulate_from, part_tail}
 use Rattle.update.specs.Image.{image_byte, image_in, image_part}
 use Rattle.update.specs.ImageLaws.{part_is}
 
@@ -26,20 +26,6 @@ tabulate_join o zero m f = rw (zero-add m, add-zero o)
 tabulate_join o (suc n) m f =
     let e : o + suc n ≡ suc o + n = omega arith in
     rw (suc-add n m, e) (ap (λ (l : List ℕ). f o ∷ l) (tabulate_join (suc o) n m f))
-
--- a front that comes back, and the rest lent to be filled
-pub front_filled : (n : ℕ) (new d z : List ℕ) → length new ≡ n → n ≤ length d → z ≡ zeros (length (take (length (new ++ drop n d) - n) (drop n (new ++ drop n d))))
-    → put_mid n (length (new ++ drop n d) - n) (new ++ drop n d) z ≡ new ++ zeros (length d - n)
-front_filled n new d z e h f =
-    let xs : List ℕ = new ++ drop n d in
-    let m : length xs ≡ length d = length-append new (drop n d) ∙ omega (arith, length-drop n d) in
-    let k : ℕ = length xs - n in
-    let kz : length (zeros k) ≡ k = length-zeros k in
-    let front : take n xs ≡ new = ap (λ (x : ℕ). take x xs) (sym e) ∙ take-append_seam new (drop n d) in
-    let past : drop (n + length (zeros k)) xs ≡ [] = drop_of_length-le xs {i = n + length (zeros k)} (omega arith) in
-    let j : k ≡ length d - n = omega arith in
-    ap (put_mid n k xs) f ∙ part_filled n k xs (omega arith) ∙ overwrite_mid n (zeros k) xs (omega arith)
-    ∙ rw (front, past, append-nil (zeros k)) (ap (λ (x : ℕ). new ++ zeros x) j)
 
 module _ (P : ℕ) (pos : 0 < P) (i : Image) (mem : List ℕ) where
   abbrev byte : ℕ → ℕ
@@ -81,7 +67,7 @@ module _ (P : ℕ) (pos : 0 < P) (i : Image) (mem : List ℕ) where
   read_both o n new d z h p e f =
       let m : length new ≡ n = ap length e ∙ length-tabulate_from o n byte in
       let s : n + (length d - n) ≡ length d = omega arith in
-      front_filled n new d z m h f ∙ (λ j. e j ++ read_past (o + n) (length d - n) (λ x. p (omega arith)) j)
+      part_tail n new d z m h f ∙ (λ j. e j ++ read_past (o + n) (length d - n) (λ x. p (omega arith)) j)
       ∙ sym (tabulate_join o n (length d - n) byte) ∙ ap (λ (x : ℕ). tabulate_from o x byte) s
 
   -- the checksum taken on over a part of a page

@@ -94,7 +94,8 @@ pub fn fold(hash: u64, stored: Stored<'_>, from: u64, end: u64) -> u64
     ensures { result ≡ folded hash (tabulate_from from (end - from) (image_in 16384 stored.entry.image stored.entry.mem.now)) }
 {
     let mut sum = hash;
-    let mut page = [0u8; 16_384];
+    let mut page = [0u8; PAGE_LEN];
+    // By `for`: the closure of a `fold` would capture the page that it changes.
     for (at, n) in (Parts { at: from, end }) {
         sum = fold_part(sum, &mut page[..n], stored, at);
     }

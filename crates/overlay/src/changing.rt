@@ -31,6 +31,7 @@ pub fn write_at(
         return Err(Refusal::OffsetOverflow);
     }
     let before = o.size;
+    // No `inspect_err`, here and in `truncation::grow_to`: a proof would know nothing of the overlay that its closure changed.
     let written = writing::write(o, stored, frames, numbers, clean, record, offset, bytes);
     if written.is_err() {
         o.size = before;

@@ -24,19 +24,6 @@ abbrev pub stays : Bool → ℕ → ℕ → Bool
 stays true p q = ltb q p
 stays false p q = not (eqb q p)
 
--- the same as one value: whether it is the pages below one, and which page
-pub data Kept : Type 0 where
-  Below : ℕ → Kept
-  AllBut : ℕ → Kept
-
-abbrev pub are_below : Kept → Bool
-are_below (Below p) = true
-are_below (AllBut p) = false
-
-abbrev pub page_of : Kept → ℕ
-page_of (Below p) = p
-page_of (AllBut p) = p
-
 -- what a test may answer, for each number, is what `keep` says
 abbrev pub Answers : (ℕ → Bool → Type 0) → (ℕ → Bool) → Type 0
 Answers test keep = (n : ℕ) (r : Bool) → test n r → r ≡ keep n

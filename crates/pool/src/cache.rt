@@ -50,7 +50,7 @@ fn make_room(c: &mut CleanCache, clean: &mut [u8])
     if c.count < CleanCache::CAPACITY {
         return;
     }
-    clean.copy_within(PAGE_LEN..CleanCache::CAPACITY * PAGE_LEN, 0);
+    clean.copy_within(PAGE_LEN..CleanCache::FRAMES_LEN, 0);
     c.pages.copy_within(1..CleanCache::CAPACITY, 0);
     c.pages[CleanCache::CAPACITY - 1] = 0;
     c.count = CleanCache::CAPACITY - 1;

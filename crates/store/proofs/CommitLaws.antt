@@ -19,7 +19,7 @@ use Rattle.extents.specs.Plan.{kept, below, additions, plan}
 use Rattle.extents.specs.PlanLaws.{among, additions_rise, additions_fall, additions_same, plan_normalized, plan_most, plan_covers}
 use Rattle.update.specs.ListLaws.{clash}
 use Rattle.update.specs.Pages.{page_numbers, holds, page_byte}
-use Rattle.update.specs.PageLaws.{EndsBy, ends_covers, among_below, numbers_has, byte_clean, byte_dirty}
+use Rattle.update.specs.PageLaws.{within_lo, EndsBy, ends_covers, among_below, numbers_has, byte_clean, byte_dirty}
 use Rattle.update.specs.Image.{image_byte}
 use Rattle.update.specs.Update.{Over, raw}
 use Rattle.update.specs.Changes.{Like, in_count}
@@ -55,15 +55,12 @@ module _ (P : ℕ) (pos : 0 < P) (old new : ℕ) (rec : List ZeroExtent) where
       (λ t. rw (additions_fall P old new rec (ltb-true new old t)) (omega (arith, count_le P pos old), b))
       (λ g. rw (additions_same P old new rec (ltb-false new old g) (ltb-false old new f)) b))
 
-  under : (a e q : ℕ) → q < a → within (run a e) q ≡ false
-  under a e q h = split (within (run a e) q) (λ t. absurd (omega (arith, within_has (run a e) q t))) (λ f. f)
-
   -- a byte below both sizes is in no addition but the record
   pub not_added : (o : ℕ) → o < old → o < new → covers (additions P old new rec) (o / P) ≡ covers rec (o / P)
   not_added o h k = split (ltb old new)
-      (λ t. rw (additions_rise P old new rec (ltb-true old new t), under (count P old) (count P new) (o / P) (in_count P pos (λ i. 0) 0 o old h)))
+      (λ t. rw (additions_rise P old new rec (ltb-true old new t), within_lo (count P old) (count P new) (o / P) (in_count P pos (λ i. 0) 0 o old h)))
       (λ f. split (ltb new old)
-      (λ t. rw (additions_fall P old new rec (ltb-true new old t), under (count P new) (count P old) (o / P) (in_count P pos (λ i. 0) 0 o new k)))
+      (λ t. rw (additions_fall P old new rec (ltb-true new old t), within_lo (count P new) (count P old) (o / P) (in_count P pos (λ i. 0) 0 o new k)))
       (λ g. rw (additions_same P old new rec (ltb-false new old g) (ltb-false old new f))))
 
   pub added_in : (q : ℕ) → covers rec q ≡ true → covers (additions P old new rec) q ≡ true

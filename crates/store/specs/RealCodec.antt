@@ -16,6 +16,7 @@ use Rattle.words.specs.Words.{word_at, words_in, word_at-drop, word_at_alike, wo
 use Rattle.meta.specs.Runs.{run, runs_of, numbers_of, runs_in, runs_in-alike, normalized}
 use Rattle.meta.specs.Block.{magic, decode, encode, encoded_len, prefix, seal, store_in, fields_of, fields_in, field_offset, offset_is, fresh}
 use Rattle.meta.specs.BlockLaws.{fields_in-at, field_at, length-encode, encoded_len-lo}
+use Rattle.meta_load.specs.LoadLaws.{pick_block}
 use Rattle.meta_load.specs.Load.{pick, judge, load, block_runs}
 use Rattle.meta_load.specs.RoundTrip.{Wide, decode_alike, stored_at, runs_encode}
 use Rattle.runs.specs.Members.{From}
@@ -86,10 +87,6 @@ module _ (b : Superblock) (rs : List ZeroExtent) (mem : List ℕ) (fit : Fits 10
       ∙ runs_again rs
 
 -- ## The tests at opening
-
-pick_block : (t : Bool) (a : Loaded) (r : Refusal) (b : Superblock) → pick t a (Err r) ≡ Ok b → (t ≡ true) × (a ≡ Ok b)
-pick_block true a r b e = (refl, e)
-pick_block false a r b e = let z : ◌≡◌ {A = ℕ} 0 1 = cc in absurd (omega arith)
 
 record Judged (b x : Superblock) (t : Bool) : Type 0 where
   is : b ≡ x

@@ -14,6 +14,7 @@ use Rattle.meta_load.specs.Load.{Loaded}
 use Rattle.words.specs.Words.{Bytes}
 use Rattle.meta.specs.Runs.{runs_of, numbers_of, normalized}
 use Rattle.meta.specs.Block.{magic, fields_of, other_fields, of_fields, sealed_by}
+use Rattle.meta_load.specs.LoadLaws.{pick_block}
 use Rattle.meta_load.specs.Load.{pick}
 use Rattle.runs.specs.Flat.{runs_in}
 use Rattle.runs.specs.FlatLaws.{length-numbers, length-runs_in, runs_numbers}
@@ -98,10 +99,6 @@ ends_in n w b = runs_ends n w b
 
 bytes_drop : (k : ℕ) (l : List ℕ) → Bytes l → Bytes (drop k l)
 bytes_drop k l b i = rw (get_or-drop k l i 0) (b (k + i))
-
-pick_block : (t : Bool) (a : Loaded) (r : Refusal) (b : Superblock) → pick t a (Err r) ≡ Ok b → (t ≡ true) × (a ≡ Ok b)
-pick_block true a r b e = (refl, e)
-pick_block false a r b e = let z : ◌≡◌ {A = ℕ} 0 1 = cc in absurd (omega arith)
 
 small_loads : (b : Superblock) (m : List ℕ) → Bytes m → 24 ≤ length m → small_load m ≡ Ok b → LoadedAs 3 1000 small_codec b m
 unfolding small_load small_codec small_runs

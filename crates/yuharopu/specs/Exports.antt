@@ -12,7 +12,7 @@ use Rattle.meta_load.specs.Load.{load}
 use Rattle.runs.specs.Flat.{runs_in}
 use Rattle.runs.specs.FlatLaws.{runs_in-all}
 use Rattle.meta.specs.Runs.{runs_of}
-use Rattle.extents.specs.Outcome.{Planned}
+use Rattle.extents.specs.Outcome.{Planned, room}
 use Rattle.extents.specs.Plan.{plan}
 use Rattle.extents.specs.Outcome.{Outcome as Outcome', planned as laid}
 
@@ -110,7 +110,7 @@ unfoldable pub plan_runs : List ℕ → List ℕ → ℕ → ℕ → List ℕ �
 plan_runs work extents old new recorded dirty list =
     pick_plans (ltb (length list) 1) (plans 35 work list)
     (pick_plans (ltb 1024 (length extents / 2)) (plans 35 work list)
-    (pick_plans (ltb (length work) ((1025 + length dirty * 2) * 2)) (plans 35 work list)
+    (pick_plans (ltb (length work) (room (length dirty))) (plans 35 work list)
     (plan_shown (planned work extents old new recorded dirty).work (planned work extents old new recorded dirty).answer list)))
 
 -- ## Laws
@@ -154,11 +154,11 @@ unfolding planned
 planned_runs work extents old new recorded dirty =
     λ i. laid (length work) (plan 16384 1024 old new (sym (runs_in-all extents) i) (sym (runs_in-all recorded) i) (sym (take_all (length dirty) dirty (omega arith)) i))
 
-pub plan_shown_lem : (work extents : List ℕ) (old new : ℕ) (recorded dirty list : List ℕ) (o : Outcome') → 1 ≤ length list → length extents / 2 ≤ 1024 → (1025 + length dirty * 2) * 2 ≤ length work
+pub plan_shown_lem : (work extents : List ℕ) (old new : ℕ) (recorded dirty list : List ℕ) (o : Outcome') → 1 ≤ length list → length extents / 2 ≤ 1024 → room (length dirty) ≤ length work
     → o ≡ planned work extents old new recorded dirty → plan_shown o.work o.answer list ≡ plan_runs work extents old new recorded dirty list
 unfolding plan_runs
 plan_shown_lem work extents old new recorded dirty list o a b c e =
-    sym (rw (le-ltb (length list) 1 a, le-ltb 1024 (length extents / 2) b, le-ltb (length work) ((1025 + length dirty * 2) * 2) c)
+    sym (rw (le-ltb (length list) 1 a, le-ltb 1024 (length extents / 2) b, le-ltb (length work) (room (length dirty)) c)
     (ap (λ (y : Outcome'). plan_shown y.work y.answer list) (sym e)))
 
 pub store_shown : (mem fields runs : List ℕ) (b : Superblock) → 16544 ≤ length mem → 21 ≤ length fields → b ≡ of_numbers fields

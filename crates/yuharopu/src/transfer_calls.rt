@@ -1,4 +1,4 @@
-// The store's calls that are lent memory alone.
+// The store's calls that are lent memory, and at most bytes beside it.
 ghost use Rattle.store.specs.Calls.{Call, import_begin, import_chunk, import_finish, import_cancel, export, checksum, refresh, refresh_step};
 ghost use Rattle.std.specs.Prelude.{◌≡◌, ℕ, []};
 ghost use Rattle.encoding.specs.Called.{open_called, open_at};
@@ -9,7 +9,7 @@ use config::Refusal;
 use encoding::Values;
 use store::State;
 
-// Takes up the state, makes the call and shows what it left; 35 where `state` or `answer` is too short.
+// Takes up the state, makes the call and shows what it left; 35 where `state` has not its length or `answer` is too short.
 pub(crate) fn call_on_memory<T: Values, F>(
     state: &mut [u8],
     mem: &mut [u8],
