@@ -1,7 +1,9 @@
 -- The laws of the plan: that it depends on the set alone, and what each turn of the code makes of it.
-use Rattle.std.specs.Prelude.{ℕ, suc, ◌+◌, ◌*◌, ◌≤◌, ◌<◌, min, ◌≡◌, Bool, true, false, ◌&&◌, ◌||◌, get_or, take, drop, ltb, leb, eqb, Ok, Err, count_by, filter}
+use Rattle.std.specs.Prelude.{ℕ, suc, ◌+◌, ◌*◌, ◌≤◌, ◌<◌, ◌-◌, min, max, ◌≡◌, Bool, true, false, ◌&&◌, ◌||◌, get_or, take, drop, ltb, leb, eqb, Ok, Err, count_by, filter}
 use Rattle.std.proofs.Math.Path.{refl, sym, ap}
-use Rattle.std.proofs.Common.{◌∙◌, arith, length-take, drop_of_length-le, drop-cons, get_or-take, take_all}
+use Rattle.std.proofs.Common.{◌∙◌, arith, length-take, drop_of_length-le, drop-cons, get_or-take, take_all, le-div_iff_mul-le}
+use Rattle.std.proofs.Math.Nat.{div-mul-le_self}
+use Rattle.std.specs.Result.{result_unwrap_or}
 use Rattle.std.proofs.Math.Bool.{not, and-true, and-false, or_assoc, or_comm}
 use mathlib.Core.List.{List, [], ◌∷◌, ◌++◌}
 use Rattle.std.proofs.Math.ListN.{length}
@@ -16,24 +18,12 @@ use Rattle.meta.specs.Runs.{run, numbers_of, normalized}
 use Rattle.runs.specs.Sets.{within, covers, add, maximal, without}
 use Rattle.runs.specs.SetLaws.{split, within_has, maximal_covers, maximal_alike, maximal_self, maximal_again, maximal_empty, maximal_normalized, without_alike, without_covers}
 use Rattle.runs.specs.Flat.{runs_in, out, held, padded, laid, at, upto}
-use Rattle.runs.specs.FlatLaws.{upto_more, upto_none, length-runs_in, held_count, held_runs, held_normalized, add_count, remove_count, laid_cleared, laid_runs}
+use Rattle.runs.specs.FlatLaws.{upto_more, upto_none, length-runs_in, held_count, held_runs, held_normalized, remove_count, laid_cleared, laid_runs}
 use Rattle.runs.specs.Lists.{rest_more, rest_none}
 use Rattle.extents.specs.Plan.{Answer, too_many, kept, pick, below, additions, add_one, add_each, remove_each, remain, plan}
 use Rattle.extents.specs.Outcome.{Outcome, outcome, planned}
-use Rattle.extents.specs.Steps.{norm, told, Ready, Added, Left}
+use Rattle.extents.specs.Steps.{norm, Within, IsKept, Left, Settled}
 use Rattle.extents.specs.Outcome.{Planned}
-
-pub told_kept : (limit r : ℕ) (w : List ℕ) → r ≤ limit → told limit r w ≡ kept (runs_in r w)
-unfolding told
-told_kept limit r w h = rw (le-leb r limit h)
-
-pub told_not : (limit r : ℕ) (w : List ℕ) → limit < r → told limit r w ≡ too_many
-unfolding told
-told_not limit r w h = rw (lt-leb r limit h)
-
-pub told_norm : (limit r : ℕ) (w : List ℕ) → normalized (runs_in r w) ≡ true → norm (told limit r w) ≡ told limit r w
-unfolding told
-told_norm limit r w f = split (leb r limit) (λ t. rw (t, maximal_self (runs_in r w) f)) (λ e. rw e)
 
 -- ## Additions
 
@@ -71,42 +61,42 @@ module _ (limit : ℕ) where
   each_append [] ys s = refl
   each_append (x ∷ xs) ys s = each_append xs ys (add_one limit x s)
 
--- a run is added to n runs that are within the limit
-within_says : (limit n r : ℕ) (w w' : List ℕ) (x : ZeroExtent) → n ≤ limit → n * 2 ≤ length w → normalized (runs_in n w) ≡ true
-    → out w' r ≡ held w (maximal (x ∷ runs_in n w)) → told limit r w' ≡ norm (add_one limit x (told limit n w))
-unfolding told
-within_says limit n r w w' x h k f e =
-    let l : List ZeroExtent = runs_in n w in
-    let c : r ≡ length (maximal (x ∷ l)) = held_count w w' r (maximal (x ∷ l)) e in
-    let v : runs_in r w' ≡ maximal (x ∷ l) = held_runs w w' r (maximal (x ∷ l)) e in
-    split (ltb x.start x.end)
-    (λ t. rw (told_kept limit n w h, add_present limit x l (ltb-true _ _ t), v, c)
-    (split (leb (length (maximal (x ∷ l))) limit) (λ u. rw u) (λ u. rw u)))
-    (λ t. let m : maximal (x ∷ l) ≡ l = maximal_empty x l (ltb-false _ _ t) ∙ maximal_self l f in
-    let d : r ≤ limit = omega (arith, c, ap length m, length-runs_in w n k) in
-    told_kept limit r w' d ∙ rw (told_kept limit n w h, add_absent limit x l (ltb-false _ _ t), v, m, maximal_self l f))
+-- past the limit nothing is added any more
+pub each_stopped : (limit : ℕ) (xs : List ZeroExtent) → add_each limit xs too_many ≡ too_many
+each_stopped limit [] = refl
+each_stopped limit (x ∷ xs) = rw (add_stopped limit x) (each_stopped limit xs)
 
-pub within_step : (limit n r : ℕ) (w w' : List ℕ) (x : ZeroExtent) → n ≤ limit → Ready limit n w
-    → out w' r ≡ held w (maximal (x ∷ runs_in n w)) → Added limit r w' (add_one limit x (told limit n w))
-within_step limit n r w w' x h g e =
-    let k : n * 2 ≤ length w = omega (arith, g.room) in
-    record {
-      most = omega (arith, add_count w w' n r k g.tidy x e);
-      tidy = held_normalized w w' r (x ∷ runs_in n w) e;
-      says = within_says limit n r w w' x h k g.tidy e;
-    }
+never_kept {ℓ} : {X : Type ℓ} {s : List ZeroExtent} → too_many ≡ kept s → X
+never_kept e = let z : ◌≡◌ {A = ℕ} 0 1 = cc in absurd (omega arith)
 
--- or the limit was passed before
-pub within_stopped : (limit n : ℕ) (w : List ℕ) (x : ZeroExtent) → limit < n → Ready limit n w → Added limit n w (add_one limit x (told limit n w))
-within_stopped limit n w x h g = record {
-  most = g.most;
-  tidy = g.tidy;
-  says = rw (told_not limit n w h, add_stopped limit x);
-}
+pub norm_stopped : (a : Answer) → norm a ≡ too_many → a ≡ too_many
+norm_stopped too_many e = refl
+norm_stopped (kept s) e = never_kept (sym e)
 
--- nothing to add
-pub within_same : (limit n : ℕ) (w : List ℕ) → Ready limit n w → Added limit n w (told limit n w)
-within_same limit n w g = record { most = g.most; tidy = g.tidy; says = sym (told_norm limit n w g.tidy) }
+-- a run is added to n runs that are within the limit, which makes r of them
+module _ (limit n r : ℕ) (w w' : List ℕ) (x : ZeroExtent) (g : Within limit n w) (e : out w' r ≡ held w (maximal (x ∷ runs_in n w))) where
+  within_count : r ≡ length (maximal (x ∷ runs_in n w))
+  within_count = held_count w w' r (maximal (x ∷ runs_in n w)) e
+
+  within_says : r ≤ limit → maximal (x ∷ runs_in n w) ≡ runs_in r w' → kept (runs_in r w') ≡ norm (add_one limit x (kept (runs_in n w)))
+  within_says h v =
+      split (ltb x.start x.end)
+      (λ t. rw (add_present limit x (runs_in n w) (ltb-true _ _ t), le-leb (length (maximal (x ∷ runs_in n w))) limit (omega (arith, within_count))) (ap kept (sym v)))
+      (λ t. rw (add_absent limit x (runs_in n w) (ltb-false _ _ t)) (ap kept (sym v ∙ maximal_empty x (runs_in n w) (ltb-false _ _ t))))
+
+  pub within_kept : r ≤ limit → IsKept limit r w' (add_one limit x (kept (runs_in n w)))
+  within_kept h = record {
+    few = h;
+    tidy = held_normalized w w' r (x ∷ runs_in n w) e;
+    says = within_says h (sym (held_runs w w' r (maximal (x ∷ runs_in n w)) e));
+  }
+
+  pub within_not : limit < r → add_one limit x (kept (runs_in n w)) ≡ too_many
+  within_not h =
+      split (ltb x.start x.end)
+      (λ t. rw (add_present limit x (runs_in n w) (ltb-true _ _ t), lt-leb (length (maximal (x ∷ runs_in n w))) limit (omega (arith, within_count))))
+      (λ t. let m : maximal (x ∷ runs_in n w) ≡ runs_in n w = maximal_empty x (runs_in n w) (ltb-false _ _ t) ∙ maximal_self (runs_in n w) g.tidy in
+      absurd (omega (arith, within_count, ap length m, length-runs_in w n (omega (arith, g.room, g.few)), g.few)))
 
 module _ (P old new : ℕ) (recorded : List ZeroExtent) where
   pub additions_rise : old < new → additions P old new recorded ≡ run (count P old) (count P new) ∷ recorded
@@ -127,16 +117,26 @@ module _ (P old new : ℕ) (recorded : List ZeroExtent) where
       (λ t. rw t (split (ltb new old) (λ u. rw u) (λ u. rw u)))
       (λ t. rw t (split (ltb new old) (λ u. rw u) (λ u. rw u)))
 
--- the size rose, fell or stayed; p and q are its pages before and after
-module _ (P limit old new p q r : ℕ) (w : List ℕ) (a : Answer) (e : p ≡ count P old) (g : q ≡ count P new) where
-  pub resized_rise : old < new → Added limit r w (add_one limit (run p q) a) → Added limit r w (add_each limit (additions P old new []) a)
-  resized_rise h d = rw (additions_rise P old new [] h, ← e, ← g) d
+count_most : (P m n : ℕ) → 0 < P → m ≤ n → count P m ≤ count P n
+unfolding count
+count_most P m n pos h = (le-div_iff_mul-le {x = count P m} pos).1 (omega (arith, div-mul-le_self (m + (P - 1)) P))
 
-  pub resized_fall : new < old → Added limit r w (add_one limit (run q p) a) → Added limit r w (add_each limit (additions P old new []) a)
-  resized_fall h d = rw (additions_fall P old new [] h, ← e, ← g) d
-
-pub resized_same : (P limit old new r : ℕ) (w : List ℕ) (a : Answer) → old ≤ new → new ≤ old → Added limit r w a → Added limit r w (add_each limit (additions P old new []) a)
-resized_same P limit old new r w a h k d = rw (additions_same P old new [] h k) d
+-- the size rose, fell or stayed, from p pages to q: the run between them is empty if it stayed
+pub resized_one : (P limit old new p q from to : ℕ) (s : List ZeroExtent) → 0 < P → p ≡ count P old → q ≡ count P new → from ≡ min p q → to ≡ max p q
+    → add_one limit (run from to) (kept s) ≡ add_each limit (additions P old new []) (kept s)
+resized_one P limit old new p q from to s pos e g lo hi =
+    split (ltb old new)
+    (λ t. let h : count P old ≤ count P new = count_most P old new pos (omega (arith, ltb-true _ _ t)) in
+    let x : from ≡ count P old = omega (arith, e, g, lo, h) in
+    let y : to ≡ count P new = omega (arith, e, g, hi, h) in
+    rw (additions_rise P old new [] (ltb-true _ _ t), x, y))
+    (λ t. let h : count P new ≤ count P old = count_most P new old pos (ltb-false _ _ t) in
+    let x : from ≡ count P new = omega (arith, e, g, lo, h) in
+    let y : to ≡ count P old = omega (arith, e, g, hi, h) in
+    split (ltb new old)
+    (λ u. rw (additions_fall P old new [] (ltb-true _ _ u), x, y))
+    (λ u. rw (additions_same P old new [] (ltb-false _ _ u) (ltb-false _ _ t))
+    (add_absent limit (run from to) s (omega (arith, x, y, count_most P old new pos (ltb-false _ _ u))))))
 
 module _ (limit : ℕ) (v : List ℕ) (i n : ℕ) where
   pub record_step : (x : ZeroExtent) (a b : Answer) → i < n → x ≡ at v i → b ≡ norm (add_one limit x a) → norm (add_each limit (upto v (i + 1) n) b) ≡ norm (add_each limit (upto v i n) a)
@@ -264,37 +264,50 @@ module _ (P top old new : ℕ) (image recorded : List ZeroExtent) (dirty : List 
       ∙ ap (remain top ps) (sym (each_norm limit xs (kept image)))
       ∙ remain_norm top ps (add_each limit xs (kept image))
 
--- the additions passed the limit, and so the lower one
-pub remain_not : (top limit r : ℕ) (ps : List ℕ) (w : List ℕ) → top ≤ limit → limit < r → told top r w ≡ remain top ps (told limit r w)
+remain_stopped : (top : ℕ) (ps : List ℕ) → remain top ps too_many ≡ too_many
 unfolding remain
-remain_not top limit r ps w h k = told_not top r w (omega arith) ∙ rw (told_not limit r w k)
+remain_stopped top ps = refl
 
--- they did not: q runs in w' are what the removals left
-pub remain_told : (top limit r q : ℕ) (ps : List ℕ) (w w' : List ℕ) → r ≤ limit → q * 2 ≤ length w' → runs_in q w' ≡ maximal (remove_each ps (runs_in r w)) → told top q w' ≡ remain top ps (told limit r w)
-unfolding remain told
-remain_told top limit r q ps w w' h k e =
-    let c : q ≡ length (maximal (remove_each ps (runs_in r w))) = sym (length-runs_in w' q k) ∙ ap length e in
-    rw (told_kept limit r w h, e, c)
+-- q runs in w are what the removals left of the set s
+module _ (top q : ℕ) (ps : List ℕ) (w : List ℕ) (s : List ZeroExtent) (e : runs_in q w ≡ maximal (remove_each ps s)) (k : q * 2 ≤ length w) where
+  remain_count : q ≡ length (maximal (remove_each ps s))
+  remain_count = sym (length-runs_in w q k) ∙ ap length e
 
--- the code's numbers: the pages of the new size, the limit, n runs at the start
-module _ (P top old new limit end n : ℕ) (w : List ℕ) (recorded : List ZeroExtent) (dirty : List ℕ)
-    (e : end ≡ count P new) (l : limit ≡ top + length (below end dirty)) (h : n ≤ top) where
-  settle_parts : (a b : Answer) → a ≡ norm (add_each limit (additions P old new []) (told limit n w)) → b ≡ norm (add_each limit recorded a)
-      → remain top (below end dirty) b ≡ plan P top old new (runs_in n w) recorded dirty
+  remain_kept : q ≤ top → remain top ps (kept s) ≡ kept (runs_in q w)
+  unfolding remain
+  remain_kept h = rw (le-leb (length (maximal (remove_each ps s))) top (omega (arith, remain_count))) (ap kept (sym e))
+
+  remain_not : top < q → remain top ps (kept s) ≡ too_many
+  unfolding remain
+  remain_not h = rw (lt-leb (length (maximal (remove_each ps s))) top (omega (arith, remain_count)))
+
+-- the code's numbers: the pages of the new size and the limit
+module _ (P top old new limit end : ℕ) (image recorded : List ZeroExtent) (dirty : List ℕ)
+    (e : end ≡ count P new) (l : limit ≡ top + length (below end dirty)) where
+  settle_parts : (a b : Answer) → a ≡ norm (add_each limit (additions P old new []) (kept image)) → b ≡ norm (add_each limit recorded a)
+      → remain top (below end dirty) b ≡ plan P top old new image recorded dirty
   settle_parts a b f g =
-      let k : told limit n w ≡ kept (runs_in n w) = told_kept limit n w (omega arith) in
       let m : limit ≡ top + length (below (count P new) dirty) = l ∙ ap (λ (x : ℕ). top + length (below x dirty)) e in
-      rw e (plan_parts P top old new (runs_in n w) recorded dirty a b (rw (k, m) at f) (rw m at g))
+      rw e (plan_parts P top old new image recorded dirty a b (rw m at f) (rw m at g))
 
-  module _ (g r : ℕ) (w₁ w₂ : List ℕ) (resized : Added limit g w₁ (add_each limit (additions P old new []) (told limit n w))) (added : Added limit r w₂ (add_each limit recorded (told limit g w₁))) where
-    whole : remain top (below end dirty) (told limit r w₂) ≡ plan P top old new (runs_in n w) recorded dirty
-    whole = settle_parts (told limit g w₁) (told limit r w₂) resized.says added.says
+  -- a step passed the limit
+  pub settle_resized : add_each limit (additions P old new []) (kept image) ≡ too_many → plan P top old new image recorded dirty ≡ too_many
+  settle_resized d = sym (settle_parts too_many too_many (ap norm (sym d)) (ap norm (sym (each_stopped limit recorded)))) ∙ remain_stopped top (below end dirty)
 
-    pub settle_not : limit < r → told top r w₂ ≡ plan P top old new (runs_in n w) recorded dirty
-    settle_not k = remain_not top limit r (below end dirty) w₂ (omega arith) k ∙ whole
+  module _ (g : ℕ) (w₁ : List ℕ) (resized : IsKept limit g w₁ (add_each limit (additions P old new []) (kept image))) where
+    pub settle_recorded : add_each limit recorded (kept (runs_in g w₁)) ≡ too_many → plan P top old new image recorded dirty ≡ too_many
+    settle_recorded d = sym (settle_parts (kept (runs_in g w₁)) too_many resized.says (ap norm (sym d))) ∙ remain_stopped top (below end dirty)
 
-    pub settle_left : (m q : ℕ) (w₃ : List ℕ) → r ≤ limit → q * 2 ≤ length w₃ → Left m q w₃ (remove_each (below end dirty) (runs_in r w₂)) → told top q w₃ ≡ plan P top old new (runs_in n w) recorded dirty
-    settle_left m q w₃ k j d = remain_told top limit r q (below end dirty) w₂ w₃ k j d.says ∙ whole
+    -- none did, and q runs are left
+    module _ (r m q : ℕ) (w₂ w₃ : List ℕ) (added : IsKept limit r w₂ (add_each limit recorded (kept (runs_in g w₁)))) (d : Left m q w₃ (remove_each (below end dirty) (runs_in r w₂))) (k : q * 2 ≤ length w₃) where
+      whole : remain top (below end dirty) (kept (runs_in r w₂)) ≡ plan P top old new image recorded dirty
+      whole = settle_parts (kept (runs_in g w₁)) (kept (runs_in r w₂)) resized.says added.says
+
+      pub settle_left : q ≤ top → plan P top old new image recorded dirty ≡ kept (runs_in q w₃)
+      settle_left h = sym whole ∙ remain_kept top q (below end dirty) w₃ (runs_in r w₂) d.says k h
+
+      pub settle_not : top < q → plan P top old new image recorded dirty ≡ too_many
+      settle_not h = sym whole ∙ remain_not top q (below end dirty) w₃ (runs_in r w₂) d.says k h
 
 -- the dirty pages are no more than the numbers
 pub take-most : (v : List ℕ) (d : ℕ) → take (min d (length v)) v ≡ take d v
@@ -317,16 +330,13 @@ runs_same e = cc
 refused_same : {r q : Refusal} → ◌≡◌ {A = Planned} (Err r) (Err q) → r ≡ q
 refused_same e = cc
 
-module _ (n r : ℕ) (w : List ℕ) where
-  pub ends_not : 1024 < r → planned n (told 1024 r w) ≡ outcome (Err ZeroExtentLimitExceeded) (padded n (take 0 w))
-  unfolding planned
-  ends_not h = rw (told_not 1024 r w h)
-
-  pub ends_runs : r ≤ 1024 → r * 2 ≤ length w → planned n (told 1024 r w) ≡ outcome (Ok r) (padded n (take (r * 2) w))
-  unfolding planned laid
-  ends_runs h k =
-      let e : laid n (runs_in r w) ≡ out (padded n (take (r * 2) w)) r = sym (laid_cleared n r w (runs_in r w) k refl) in
-      rw (told_kept 1024 r w h) (λ i. outcome (Ok (e i).count) (e i).work)
+-- what is not used of the list becomes zeros
+pub ends : (n : ℕ) (p : Planned) (w : List ℕ) (a : Answer) → Settled p w a → outcome p (padded n (take (result_unwrap_or p 0 * 2) w)) ≡ planned n a
+unfolding planned laid
+ends n (Ok r) w a s =
+    let e : laid n (runs_in r w) ≡ out (padded n (take (r * 2) w)) r = sym (laid_cleared n r w (runs_in r w) s.0 refl) in
+    rw s.1 (λ i. outcome (Ok (sym e i).count) (sym e i).work)
+ends n (Err r) w a s = rw (s.0, s.1)
 
 -- and what a caller learns from them
 pub planned_runs_lem : (n k : ℕ) (w : List ℕ) (a : Answer) → outcome (Ok k) w ≡ planned n a → a ≡ kept (runs_in k w)
@@ -359,13 +369,6 @@ remove_covers (q ∷ ps) s p = remove_covers ps (without q s) p ∙ rw (without_
 
 kept_same : {s t : List ZeroExtent} → kept s ≡ kept t → s ≡ t
 kept_same e = cc
-
-never_kept {ℓ} : {X : Type ℓ} {s : List ZeroExtent} → too_many ≡ kept s → X
-never_kept e = let z : ◌≡◌ {A = ℕ} 0 1 = cc in absurd (omega arith)
-
-each_stopped : (limit : ℕ) (xs : List ZeroExtent) → add_each limit xs too_many ≡ too_many
-each_stopped limit [] = refl
-each_stopped limit (x ∷ xs) = rw (add_stopped limit x) (each_stopped limit xs)
 
 or_swap : (a b d : Bool) → (b || (a || d)) ≡ ((a || b) || d)
 or_swap a b d = sym (or_assoc b a d) ∙ ap (λ (x : Bool). x || d) (or_comm b a)

@@ -5,9 +5,9 @@ ghost use Rattle.std.specs.Prelude.{◌≡◌, true, ◌+◌, ◌*◌, ◌≤◌
 ghost use Rattle.meta.specs.Runs.{run, runs_of, normalized};
 ghost use Rattle.runs.specs.Flat.{runs_in};
 ghost use Rattle.page_sets.specs.Lent.{IsSameList};
-ghost use Rattle.extents.specs.Plan.{below, additions, add_one, add_each, remove_each, plan as plan_of};
+ghost use Rattle.extents.specs.Plan.{kept, below, additions, add_one, add_each, remove_each, plan as plan_of};
 ghost use Rattle.extents.specs.Outcome.{outcome, planned, room, Lent};
-ghost use Rattle.extents.specs.Steps.{told, Ready, Added, Left};
+ghost use Rattle.extents.specs.Steps.{Within, Stepped, Left, Settled};
 
 use config::Refusal;
 use meta::{Superblock, ZeroExtent};
@@ -39,51 +39,47 @@ fn count_below(dirty: &[u64], end: u64) -> usize
 }
 
 // No methods of a struct of the set and its limit, tried: of the list lent to a set inside a struct the proof of `settle` knew only the length at its end.
-// The three are steps of `settle` alone, which needs the set without its limit before and after.
+// `add_resized` and `add_record` are steps of `settle` alone, which needs the set without its limit before and after, and `add_within` is a step of theirs.
 
-// Adds a run, unless the runs are above the limit already: a set above the limit stays.
-fn add_within(set: &mut RunSet<'_>, limit: usize, x: ZeroExtent)
-    requires { Ready limit set.old.count set.old.work.now }
+// Adds a run: a set of more than `limit` runs is refused.
+fn add_within(set: &mut RunSet<'_>, limit: usize, x: ZeroExtent) -> Result<(), Refusal>
+    requires { Within limit set.old.count set.old.work.now }
     ensures same { IsSameList set.old.work set.new.work }
-    ensures added { Added limit set.new.count set.new.work.now (add_one limit x (told limit set.old.count set.old.work.now)) }
+    ensures added { Stepped limit result set.new.count set.new.work.now (add_one limit x (kept (runs_in set.old.count set.old.work.now))) }
 {
-    if set.len() <= limit {
-        set.add(x);
+    set.add(x);
+    if limit < set.len() {
+        return Err(Refusal::ZeroExtentLimitExceeded);
     }
+    Ok(())
 }
 
-// Adds the pages by which the size rose or fell, from `old` to `new` bytes.
-fn add_resized(set: &mut RunSet<'_>, limit: usize, old: u64, new: u64)
-    requires { Ready limit set.old.count set.old.work.now }
+// Adds the pages by which the size rose or fell, from `old` to `new` bytes: if there are none the run is empty, and adds nothing.
+fn add_resized(set: &mut RunSet<'_>, limit: usize, old: u64, new: u64) -> Result<(), Refusal>
+    requires { Within limit set.old.count set.old.work.now }
     ensures same { IsSameList set.old.work set.new.work }
-    ensures added { Added limit set.new.count set.new.work.now (add_each limit (additions 16384 old new []) (told limit set.old.count set.old.work.now)) }
+    ensures added { Stepped limit result set.new.count set.new.work.now
+        (add_each limit (additions 16384 old new []) (kept (runs_in set.old.count set.old.work.now))) }
 {
     let was = config::page_count_for_size(old);
     let is = config::page_count_for_size(new);
-    if old < new {
-        let rise = ZeroExtent {
-            start: was.0,
-            end: is.0,
-        };
-        add_within(set, limit, rise);
-    } else if new < old {
-        let fall = ZeroExtent {
-            start: is.0,
-            end: was.0,
-        };
-        add_within(set, limit, fall);
-    }
+    let resized = ZeroExtent {
+        start: was.0.min(is.0),
+        end: was.0.max(is.0),
+    };
+    add_within(set, limit, resized)
 }
 
 // Adds each recorded run, in order.
-fn add_record<L: RunList>(set: &mut RunSet<'_>, limit: usize, record: L)
-    requires { Ready limit set.old.count set.old.work.now }
+fn add_record<L: RunList>(set: &mut RunSet<'_>, limit: usize, record: L) -> Result<(), Refusal>
+    requires { Within limit set.old.count set.old.work.now }
     ensures same { IsSameList set.old.work set.new.work }
-    ensures added { Added limit set.new.count set.new.work.now (add_each limit (L.runs «record») (told limit set.old.count set.old.work.now)) }
+    ensures added { Stepped limit result set.new.count set.new.work.now (add_each limit (L.runs «record») (kept (runs_in set.old.count set.old.work.now))) }
 {
     for x in record.iter() {
-        add_within(set, limit, x);
+        add_within(set, limit, x)?;
     }
+    Ok(())
 }
 
 // Removes the dirty pages below `end`.
@@ -100,37 +96,26 @@ fn remove_dirty(set: &mut RunSet<'_>, dirty: &[u64], end: u64)
     }
 }
 
-// The additions and the removals, on a set in a work list that has room for them. A set of more than 1,024 runs says: too many.
-fn settle(set: &mut RunSet<'_>, change: Change<'_>)
+// The additions and the removals, on a set in a work list that has room for them: how many runs remain.
+fn settle(set: &mut RunSet<'_>, change: Change<'_>) -> Result<usize, Refusal>
     requires { Lent set.old.count (length change.dirty.now) set.old.work.now }
     ensures same { IsSameList set.old.work set.new.work }
-    ensures plan { told 1024 set.new.count set.new.work.now
-        ≡ plan_of 16384 1024 change.entry.old_size change.entry.new_size
-        (runs_in set.old.count set.old.work.now) (runs_of change.entry.recorded.now) change.entry.dirty.now }
+    ensures plan { Settled result set.new.work.now
+        (plan_of 16384 1024 change.entry.old_size change.entry.new_size
+        (runs_in set.old.count set.old.work.now) (runs_of change.entry.recorded.now) change.entry.dirty.now) }
 {
     let end = config::page_count_for_size(change.new_size);
     let limit = Superblock::MAX_ZERO_EXTENTS as usize + count_below(change.dirty, end.0);
-    add_resized(set, limit, change.old_size, change.new_size);
+    add_resized(set, limit, change.old_size, change.new_size)?;
     let record = Numbers {
         numbers: change.recorded,
     };
-    add_record(set, limit, record);
-    if limit < set.len() {
-        return;
-    }
+    add_record(set, limit, record)?;
     remove_dirty(set, change.dirty, end.0);
-}
-
-// The answer for so many runs in front of the list; what is not used of it becomes zeros.
-fn finish(work: &mut [u64], count: usize) -> Result<usize, Refusal>
-    requires { 2048 ≤ length work.old }
-    ensures { outcome result work.new ≡ planned (length work.old) (told 1024 count work.old) }
-{
+    let count = set.len();
     if (Superblock::MAX_ZERO_EXTENTS as usize) < count {
-        runs::clear(work, 0);
         return Err(Refusal::ZeroExtentLimitExceeded);
     }
-    runs::clear(work, count * 2);
     Ok(count)
 }
 
@@ -143,7 +128,9 @@ pub fn plan<L: RunList>(work: &mut [u64], image: L, change: Change<'_>) -> Resul
         (plan_of 16384 1024 change.entry.old_size change.entry.new_size (L.runs image) (runs_of change.entry.recorded.now) change.entry.dirty.now) }
 {
     let mut set = RunSet::copy(work, image);
-    settle(&mut set, change);
-    let count = set.len();
-    finish(work, count)
+    let answer = settle(&mut set, change);
+    // What is not used of the list becomes zeros: at 31 all of it.
+    let used = answer.unwrap_or(0);
+    runs::clear(work, used * 2);
+    answer
 }

@@ -1,13 +1,13 @@
-use Rattle.std.proofs.Common.{arith}
-use Rattle.extents.specs.PlanLaws.{within_step, within_stopped}
+use Rattle.std.proofs.Common.{refl, arith}
+use Rattle.extents.specs.PlanLaws.{within_kept, within_not}
 use Rattle.extents.proofs.add_within.Goals as goal
 
-pub returns-then-len-limit-clause-added : goal.returns-then-len-limit-clause-added
-returns-then-len-limit-clause-added c =
+pub returns-then-limit-len-clause-added : goal.returns-then-limit-len-clause-added
+returns-then-limit-len-clause-added c =
     let s = c.args.set.now in
-    within_step _ s.count _ _ _ _ (omega (arith, c.len.ensures, c.if-len-limit.true)) c.requires c.add.ensures.runs
+    (refl, within_not _ s.count _ _ _ _ c.requires c.add.ensures.runs (omega (arith, c.len.ensures, c.if-limit-len.true)))
 
-pub returns-else-len-limit-clause-added : goal.returns-else-len-limit-clause-added
-returns-else-len-limit-clause-added c =
+pub returns-clause-added : goal.returns-clause-added
+returns-clause-added c =
     let s = c.args.set.now in
-    within_stopped _ s.count _ _ (omega (arith, c.len.ensures, c.if-len-limit.false)) c.requires
+    within_kept _ s.count _ _ _ _ c.requires c.add.ensures.runs (omega (arith, c.len.ensures, c.if-limit-len.false))
