@@ -1,55 +1,67 @@
 // What each call makes of the superblock. Page size, schema version (but for the end of an import) and unknown bits of the flags are carried on.
 #![tactic(auto)]
 
-ghost use Rattle.std.specs.Prelude.{◌≡◌, false, ◌<◌, ◌/◌, ◌%◌, eqb};
+ghost use Rattle.std.specs.Prelude.{◌≡◌, false};
 ghost use Rattle.store.specs.Blocks.{importing, stale, refreshing, marks, set_image, set_import, set_refresh, set_numbers, set_flags};
 ghost use Rattle.store.specs.Blocks.{after_commit, after_import_begin, after_import_chunk, after_import_cancel, after_import_finish, after_refresh, after_refresh_step};
 
 use meta::Superblock;
 
-// Whether a mark is set; its flag is a power of two.
-fn has(b: Superblock, flag: u64) -> bool
-    requires { 0 < flag }
-    ensures { result ≡ eqb (b.flags / flag % 2) 1 }
-{
-    b.flags / flag % 2 == 1
-}
-
 pub fn is_importing(b: Superblock) -> bool
     ensures { result ≡ importing b }
 {
-    has(b, Superblock::FLAG_IMPORTING)
+    b.flags & Superblock::FLAG_IMPORTING != 0
 }
 
 fn is_stale(b: Superblock) -> bool
     ensures { result ≡ stale b }
 {
-    has(b, Superblock::FLAG_CHECKSUM_STALE)
+    b.flags & Superblock::FLAG_CHECKSUM_STALE != 0
 }
 
 pub fn is_refreshing(b: Superblock) -> bool
     ensures { result ≡ refreshing b }
 {
-    has(b, Superblock::FLAG_CHECKSUM_REFRESHING)
+    b.flags & Superblock::FLAG_CHECKSUM_REFRESHING != 0
 }
 
-// The bits from here on are carried on as they are.
-const UNKNOWN_FLAGS: u64 = 2 * Superblock::FLAG_CHECKSUM_REFRESHING;
+const KNOWN_FLAGS: u64 = Superblock::FLAG_IMPORTING
+    | Superblock::FLAG_CHECKSUM_STALE
+    | Superblock::FLAG_CHECKSUM_REFRESHING;
 
-// The flags with these three marks.
-fn with_marks(importing: bool, stale: bool, refreshing: bool, flags: u64) -> u64
-    ensures { result ≡ marks importing stale refreshing flags }
-{
-    let set = Superblock::FLAG_IMPORTING * u64::from(importing)
-        + Superblock::FLAG_CHECKSUM_STALE * u64::from(stale)
-        + Superblock::FLAG_CHECKSUM_REFRESHING * u64::from(refreshing);
-    flags / UNKNOWN_FLAGS * UNKNOWN_FLAGS + set
+// The flags that are known here; the other bits are carried on as they are.
+#[derive(Clone, Copy)]
+struct Marks {
+    importing: bool,
+    stale: bool,
+    refreshing: bool,
 }
 
-fn with_flags(b: Superblock, flags: u64) -> Superblock
-    ensures { result ≡ set_flags flags b }
-{
-    Superblock { flags, ..b }
+impl Marks {
+    fn of(b: Superblock) -> Marks
+        ensures importing { result.importing ≡ importing b }
+        ensures stale { result.stale ≡ stale b }
+        ensures refreshing { result.refreshing ≡ refreshing b }
+    {
+        Marks {
+            importing: is_importing(b),
+            stale: is_stale(b),
+            refreshing: is_refreshing(b),
+        }
+    }
+
+    // A block with these marks.
+    fn on(self, b: Superblock) -> Superblock
+        ensures { result ≡ set_flags (marks self.importing self.stale self.refreshing b.flags) b }
+    {
+        let set = Superblock::FLAG_IMPORTING * u64::from(self.importing)
+            | Superblock::FLAG_CHECKSUM_STALE * u64::from(self.stale)
+            | Superblock::FLAG_CHECKSUM_REFRESHING * u64::from(self.refreshing);
+        Superblock {
+            flags: b.flags & !KNOWN_FLAGS | set,
+            ..b
+        }
+    }
 }
 
 // A database of `size` bytes at `base`, with so many runs.
@@ -114,7 +126,12 @@ pub fn after_commit(b: Superblock, update: bool, size: u64, runs: u64) -> Superb
         return image;
     }
     let cleared = with_refresh(image, 0, 0, 0);
-    let marked = with_flags(cleared, with_marks(is_importing(b), true, false, b.flags));
+    let marks = Marks {
+        stale: true,
+        refreshing: false,
+        ..Marks::of(b)
+    };
+    let marked = marks.on(cleared);
     with_numbers(
         marked,
         b.schema_version,
@@ -127,7 +144,12 @@ pub fn after_import_begin(b: Superblock, total: u64, expected: u64, base: u64) -
     ensures { result ≡ after_import_begin total expected base b }
 {
     let begun = with_refresh(with_import(b, expected, 0, total, base), 0, 0, 0);
-    with_flags(begun, with_marks(true, is_stale(b), false, b.flags))
+    let marks = Marks {
+        importing: true,
+        refreshing: false,
+        ..Marks::of(b)
+    };
+    marks.on(begun)
 }
 
 pub fn after_import_chunk(b: Superblock, written: u64) -> Superblock
@@ -143,26 +165,37 @@ pub fn after_import_cancel(b: Superblock) -> Superblock
     ensures { result ≡ after_import_cancel b }
 {
     let closed = with_import(b, 0, 0, 0, 0);
-    with_flags(
-        closed,
-        with_marks(false, is_stale(b), is_refreshing(b), b.flags),
-    )
+    let marks = Marks {
+        importing: false,
+        ..Marks::of(b)
+    };
+    marks.on(closed)
 }
 
 pub fn after_import_finish(b: Superblock, checksum: u64) -> Superblock
     ensures { result ≡ after_import_finish 16384 checksum b }
 {
     let image = with_image(b, b.import_base_offset, b.import_total_size, 0);
-    let closed = with_refresh(with_import(image, 0, 0, 0, 0), 0, 0, 0);
-    let marked = with_flags(closed, with_marks(false, false, false, b.flags));
+    let finished = with_refresh(with_import(image, 0, 0, 0, 0), 0, 0, 0);
+    let marks = Marks {
+        importing: false,
+        stale: false,
+        refreshing: false,
+    };
+    let marked = marks.on(finished);
     with_numbers(marked, 0, b.last_tx_id, checksum)
 }
 
 pub fn after_refresh(b: Superblock, checksum: u64) -> Superblock
     ensures { result ≡ after_refresh checksum b }
 {
-    let cleared = with_refresh(b, 0, 0, 0);
-    let marked = with_flags(cleared, with_marks(is_importing(b), false, false, b.flags));
+    let refreshed = with_refresh(b, 0, 0, 0);
+    let marks = Marks {
+        stale: false,
+        refreshing: false,
+        ..Marks::of(b)
+    };
+    let marked = marks.on(refreshed);
     with_numbers(marked, b.schema_version, b.last_tx_id, checksum)
 }
 
@@ -170,19 +203,20 @@ pub fn after_refresh_step(b: Superblock, offset: u64, hash: u64) -> Superblock
     ensures { result ≡ after_refresh_step offset hash b }
 {
     let reached = with_refresh(b, offset, hash, b.last_tx_id);
-    with_flags(
-        reached,
-        with_marks(is_importing(b), is_stale(b), true, b.flags),
-    )
+    let marks = Marks {
+        refreshing: true,
+        ..Marks::of(b)
+    };
+    marks.on(reached)
 }
 
 // A refresh that is under way is given up.
 pub fn without_refresh(b: Superblock) -> Superblock
     ensures { result ≡ set_flags (marks (importing b) (stale b) false b.flags) (set_refresh 0 0 0 b) }
 {
-    let cleared = with_refresh(b, 0, 0, 0);
-    with_flags(
-        cleared,
-        with_marks(is_importing(b), is_stale(b), false, b.flags),
-    )
+    let marks = Marks {
+        refreshing: false,
+        ..Marks::of(b)
+    };
+    with_refresh(marks.on(b), 0, 0, 0)
 }

@@ -8,4 +8,4 @@ returns-then-not-update c = rw (c.if-not-update.true, c.with_image-image.ensures
 
 pub returns : goal.returns
 unfolding after_commit
-returns c = rw (c.if-not-update.false, c.with_numbers.ensures, c.saturating_add.ensures, add-one, c.with_flags-marked.ensures, c.with_marks.ensures, c.is_importing.ensures, c.with_refresh-cleared.ensures, c.with_image-image.ensures) refl
+returns c = rw (c.if-not-update.false, c.with_numbers.ensures, c.saturating_add.ensures, add-one, c.on-marked.ensures, c.of.ensures.importing, c.with_refresh-cleared.ensures, c.with_image-image.ensures) refl

@@ -4,4 +4,4 @@ use Rattle.blocks.proofs.after_import_begin.Goals as goal
 
 pub returns : goal.returns
 unfolding after_import_begin
-returns c = rw (c.with_flags.ensures, c.with_marks.ensures, c.is_stale.ensures, c.with_refresh-begun.ensures, c.with_import.ensures) refl
+returns c = rw (c.on.ensures, c.of.ensures.stale, c.with_refresh-begun.ensures, c.with_import.ensures) refl

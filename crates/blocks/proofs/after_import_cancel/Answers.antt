@@ -4,4 +4,4 @@ use Rattle.blocks.proofs.after_import_cancel.Goals as goal
 
 pub returns : goal.returns
 unfolding after_import_cancel
-returns c = rw (c.with_flags.ensures, c.with_marks.ensures, c.is_refreshing.ensures, c.is_stale.ensures, c.with_import-closed.ensures) refl
+returns c = rw (c.on.ensures, c.of.ensures.refreshing, c.of.ensures.stale, c.with_import-closed.ensures) refl

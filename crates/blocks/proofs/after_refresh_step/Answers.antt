@@ -4,4 +4,4 @@ use Rattle.blocks.proofs.after_refresh_step.Goals as goal
 
 pub returns : goal.returns
 unfolding after_refresh_step
-returns c = rw (c.with_flags.ensures, c.with_marks.ensures, c.is_stale.ensures, c.is_importing.ensures, c.with_refresh-reached.ensures) refl
+returns c = rw (c.on.ensures, c.of.ensures.stale, c.of.ensures.importing, c.with_refresh-reached.ensures) refl
