@@ -1,9 +1,12 @@
-use Rattle.std.proofs.Common.{arith}
+use Rattle.std.proofs.Common.{◌≡◌, ℕ, ◌/◌, ◌%◌, not, eqb, bit_and, arith}
 use Rattle.std.proofs.lemmas.Grind.{common_steps}
 use Rattle.std.proofs.lemmas.Nat.Bits.{and_pow}
 use Rattle.store.specs.Blocks.{refreshing}
 use Rattle.blocks.proofs.is_refreshing.Goals as goal
 
+is_set : (n : ℕ) → not (eqb (bit_and n 4) 0) ≡ eqb (n / 4 % 2) 1
+is_set n = grind (arith, common_steps, and_pow n 2)
+
 pub returns : goal.returns
 unfolding refreshing
-returns c = grind (arith, common_steps, and_pow c.args.b.flags 2)
+returns c = is_set c.args.b.flags
