@@ -5,7 +5,7 @@
 ghost use Rattle.std.specs.Prelude.{◌≡◌, true, ◌+◌, ◌*◌, ◌≤◌, ◌<◌, min, max, ◌∷◌, length, take};
 ghost use Rattle.meta.specs.Runs.{run, normalized};
 ghost use Rattle.runs.specs.Sets.{merge, maximal, without, piece};
-ghost use Rattle.runs.specs.Flat.{runs_in, out, held, padded, laid, at, put, upto, write, place};
+ghost use Rattle.runs.specs.Flat.{runs_in, out, held, padded, laid, at, upto, write, place};
 ghost use Rattle.page_sets.specs.Lent.{IsSameList};
 
 use meta::ZeroExtent;
@@ -20,13 +20,6 @@ pub struct RunSet<'a> {
 }
 
 // The steps on the list take it and the count apart: between their stores the runs are not yet those of a set.
-fn store(work: &mut [u64], i: usize, x: ZeroExtent)
-    requires { i * 2 + 1 < length work.old }
-    ensures { work.new ≡ put work.old i x }
-{
-    work[i * 2] = x.start;
-    work[i * 2 + 1] = x.end;
-}
 
 // The run `x` goes in at `i`, and the runs from `i` on move up by one.
 fn open(work: &mut [u64], count: usize, i: usize, x: ZeroExtent) -> usize
@@ -34,7 +27,7 @@ fn open(work: &mut [u64], count: usize, i: usize, x: ZeroExtent) -> usize
     ensures { out work.new result ≡ write work.old i (x ∷ upto work.old i count) }
 {
     work.copy_within(i * 2..count * 2, i * 2 + 2);
-    store(work, i, x);
+    runs::write(work, i, x);
     count + 1
 }
 
@@ -60,7 +53,7 @@ fn replace(work: &mut [u64], count: usize, i: usize, met: Met) -> usize
     ensures { out work.new result ≡ write work.old i (met.run ∷ upto work.old met.next count) }
 {
     if i < met.next {
-        store(work, i, met.run);
+        runs::write(work, i, met.run);
         close(work, count, i + 1, met.next)
     } else {
         open(work, count, i, met.run)
@@ -80,15 +73,15 @@ fn cut(work: &mut [u64], count: usize, i: usize, x: ZeroExtent, page: u64) -> us
         start: page + 1,
         end: x.end,
     };
-    if left.start < page {
-        store(work, i, left);
-        if right.start < right.end {
+    if !left.is_empty() {
+        runs::write(work, i, left);
+        if !right.is_empty() {
             return open(work, count, i + 1, right);
         }
         return count;
     }
-    if right.start < right.end {
-        store(work, i, right);
+    if !right.is_empty() {
+        runs::write(work, i, right);
         return count;
     }
     close(work, count, i, i + 1)
@@ -182,7 +175,7 @@ impl<'a> RunSet<'a> {
         ensures same { IsSameList self.old.work self.new.work }
         ensures runs { out self.new.work.now self.new.count ≡ held self.old.work.now (maximal (x ∷ runs_in self.old.count self.old.work.now)) }
     {
-        if x.end <= x.start {
+        if x.is_empty() {
             return;
         }
         let i = self.find(x.start);
@@ -201,7 +194,7 @@ impl<'a> RunSet<'a> {
             return;
         }
         let x = self.get(i);
-        if x.end <= page || page < x.start {
+        if !x.contains(page) {
             return;
         }
         self.count = cut(self.work, self.count, i, x, page);

@@ -9,13 +9,12 @@ use meta::ZeroExtent;
 pub fn push_run(record: &mut [u64], count: usize, run: ZeroExtent) -> Result<usize, Refusal>
     ensures { pushes result «record».new ≡ pushed «record».old count run.start run.end }
 {
-    if run.end <= run.start {
+    if run.is_empty() {
         return Ok(count);
     }
     if record.len() / 2 <= count {
         return Err(Refusal::RecordFull);
     }
-    record[count * 2] = run.start;
-    record[count * 2 + 1] = run.end;
+    runs::write(record, count, run);
     Ok(count + 1)
 }

@@ -5,4 +5,4 @@ mod list;
 mod work;
 
 pub use list::{RunList, Runs, covers_page, is_normalized};
-pub use work::{Numbers, Stored, clear, covered, first, read};
+pub use work::{Numbers, Stored, clear, covered, first, read, write};

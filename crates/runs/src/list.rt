@@ -57,7 +57,7 @@ impl<L: RunList> Iterator for Runs<L> {
 pub fn covers_page<L: RunList>(list: L, page: u64) -> bool
     ensures { result ≡ covers (L.runs list) page }
 {
-    list.iter().any(|x| x.start <= page && page < x.end)
+    list.iter().any(|x| x.contains(page))
 }
 
 // Whether the runs are normalized. By number: one pass asks each run about itself and the next one, where `all` and `is_sorted_by` would be two passes.
@@ -67,7 +67,7 @@ pub fn is_normalized<L: RunList>(list: L) -> bool
     let n = list.count();
     for i in 0..n {
         let run = list.get(i);
-        if run.end <= run.start {
+        if run.is_empty() {
             return false;
         }
         if i + 1 < n && list.get(i + 1).start <= run.end {

@@ -3,7 +3,7 @@ ghost use Rattle.std.specs.Prelude.{◌≡◌, ◌+◌, ◌*◌, ◌/◌, ◌<�
 ghost use Rattle.meta.specs.Runs.{runs_of};
 ghost use Rattle.meta.specs.Runs.{runs_in as stored_in};
 ghost use Rattle.runs.specs.Sets.{covers};
-ghost use Rattle.runs.specs.Flat.{runs_in, padded, at};
+ghost use Rattle.runs.specs.Flat.{runs_in, padded, at, put};
 
 use crate::list::{RunList, covers_page};
 use meta::{ZeroExtent, read_word};
@@ -55,6 +55,14 @@ pub fn read(work: &[u64], i: usize) -> ZeroExtent
         start: work[i * 2],
         end: work[i * 2 + 1],
     }
+}
+
+pub fn write(work: &mut [u64], i: usize, run: ZeroExtent)
+    requires { i * 2 + 1 < length work.old }
+    ensures { work.new ≡ put work.old i run }
+{
+    work[i * 2] = run.start;
+    work[i * 2 + 1] = run.end;
 }
 
 // The first `count` runs in the numbers, or as many as there are: of a buffer that is lent with room for more, so that the count stands beside it.

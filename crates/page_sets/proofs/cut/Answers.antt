@@ -3,6 +3,7 @@ use Prim.Native.Nat.{ℕ, ◌+◌, ◌≤◌, ◌<◌}
 use mathlib.Core.Path.{◌≡◌, sym, ◌∙◌}
 use mathlib.Core.List.{List, ◌∷◌}
 use native.Mathlib.Omega.{arith}
+use borrow.Author.Tests.{leb-true, leb-false}
 use Rattle.meta.specs.Runs.{run}
 use Rattle.runs.specs.Sets.{piece}
 use Rattle.runs.specs.Members.{piece_none, piece_some}
@@ -34,22 +35,30 @@ module _ (w : List ℕ) (i n s p e : ℕ) where
   none_left : (o : Out) → p ≤ s → e ≤ p + 1 → o ≡ write w i (upto w (i + 1) n) → o ≡ write w i (piece s p (piece (p + 1) e (upto w (i + 1) n)))
   none_left o h k t = let u = upto w (i + 1) n in rw (piece_none s p (piece (p + 1) e u) h, piece_none (p + 1) e u k) t
 
-pub returns-then-right : goal.returns-then-right
-returns-then-right c =
+pub returns-then-not-is_empty-2 : goal.returns-then-not-is_empty-2
+returns-then-not-is_empty-2 c =
     let a = c.args in
-    both_left a.work.now a.i a.count a.x.start a.page a.x.end _ _ c.if-left-page.true c.if-right.true c.store.ensures c.«open».ensures
+    let l : a.x.start < a.page = leb-false _ _ (sym c.is_empty.ensures ∙ c.if-not-is_empty.true) in
+    let r : a.page + 1 < a.x.end = leb-false _ _ (sym c.is_empty-then-not-is_empty.ensures ∙ c.if-not-is_empty-2.true) in
+    both_left a.work.now a.i a.count a.x.start a.page a.x.end _ _ l r c.write.ensures c.«open».ensures
 
-pub returns-then-left-page : goal.returns-then-left-page
-returns-then-left-page c =
+pub returns-then-not-is_empty : goal.returns-then-not-is_empty
+returns-then-not-is_empty c =
     let a = c.args in
-    first-left a.work.now a.i a.count a.x.start a.page a.x.end _ c.requires.0 c.if-left-page.true c.if-right.false c.store.ensures
+    let l : a.x.start < a.page = leb-false _ _ (sym c.is_empty.ensures ∙ c.if-not-is_empty.true) in
+    let r : a.x.end ≤ a.page + 1 = leb-true _ _ (sym c.is_empty-then-not-is_empty.ensures ∙ c.if-not-is_empty-2.false) in
+    first-left a.work.now a.i a.count a.x.start a.page a.x.end _ c.requires.0 l r c.write.ensures
 
-pub returns-then-right-2 : goal.returns-then-right-2
-returns-then-right-2 c =
+pub returns-then-not-is_empty-3 : goal.returns-then-not-is_empty-3
+returns-then-not-is_empty-3 c =
     let a = c.args in
-    second-left a.work.now a.i a.count a.x.start a.page a.x.end _ c.requires.0 c.if-left-page.false c.if-right-2.true c.store-then-right-2.ensures
+    let l : a.page ≤ a.x.start = leb-true _ _ (sym c.is_empty.ensures ∙ c.if-not-is_empty.false) in
+    let r : a.page + 1 < a.x.end = leb-false _ _ (sym c.is_empty-2.ensures ∙ c.if-not-is_empty-3.true) in
+    second-left a.work.now a.i a.count a.x.start a.page a.x.end _ c.requires.0 l r c.write-then-not-is_empty-3.ensures
 
 pub returns : goal.returns
 returns c =
     let a = c.args in
-    none_left a.work.now a.i a.count a.x.start a.page a.x.end _ c.if-left-page.false c.if-right-2.false c.close.ensures
+    let l : a.page ≤ a.x.start = leb-true _ _ (sym c.is_empty.ensures ∙ c.if-not-is_empty.false) in
+    let r : a.x.end ≤ a.page + 1 = leb-true _ _ (sym c.is_empty-2.ensures ∙ c.if-not-is_empty-3.false) in
+    none_left a.work.now a.i a.count a.x.start a.page a.x.end _ l r c.close.ensures

@@ -4,4 +4,4 @@ use Rattle.page_sets.proofs.open.Goals as goal
 pub returns : goal.returns
 returns c =
     let a = c.args in
-    rw (c.store.ensures, c.copy_within.ensures.after) (moved_up a.work.now a.i a.count c.requires.0 c.requires.1 a.x)
+    rw (c.write.ensures, c.copy_within.ensures.after) (moved_up a.work.now a.i a.count c.requires.0 c.requires.1 a.x)

@@ -12,4 +12,4 @@ module _ (w : List ℕ) (i j n : ℕ) (x : ZeroExtent) (o : Out) where
 pub returns-then-i-met : goal.returns-then-i-met
 returns-then-i-met c =
     let a = c.args in
-    some-met a.work.now a.i a.met.next a.count a.met.run _ _ c.if-i-met.true c.store.ensures c.close.ensures
+    some-met a.work.now a.i a.met.next a.count a.met.run _ _ c.if-i-met.true c.write.ensures c.close.ensures

@@ -1,5 +1,5 @@
 -- The runs with x added are those before its place, the run that it makes with those it meets, and those behind: over plain values, as the laws of `write` say.
-use Rattle.std.proofs.Common.{ℕ, ◌+◌, ◌*◌, ◌≤◌, ◌<◌, ◌≡◌, ◌∙◌, ◌∷◌, List, true, sym, ap, length, arith}
+use Rattle.std.proofs.Common.{ℕ, ◌+◌, ◌*◌, ◌≤◌, ◌<◌, ◌≡◌, ◌∙◌, ◌∷◌, List, true, sym, ap, length, arith, leb-true, leb-false}
 use Rattle.meta.specs.declared.ZeroExtent.{ZeroExtent}
 use Rattle.meta.specs.Runs.{normalized}
 use Rattle.runs.specs.Sets.{merge, maximal}
@@ -19,10 +19,10 @@ module _ (w : List ℕ) (n : ℕ) (h : n * 2 + 1 < length w) (f : normalized (ru
       → o ≡ write w i (x ∷ upto w j n) → o ≡ held w (maximal (r ∷ runs_in n w))
   run-added i j x o g e m t = t ∙ ap (write w i) (sym m) ∙ sym (find_at w n i r e) ∙ ap (write w 0) (sym (add_some r (upto w 0 n) g)) ∙ held_add w n h f r
 
-pub returns-then-x-clause-runs : goal.returns-then-x-clause-runs
-returns-then-x-clause-runs c =
+pub returns-then-is_empty-clause-runs : goal.returns-then-is_empty-clause-runs
+returns-then-is_empty-clause-runs c =
     let s = c.args.self.now in
-    nothing-added s.work.now s.count c.requires s.tidy.1 c.args.x c.if-x.true
+    nothing-added s.work.now s.count c.requires s.tidy.1 c.args.x (leb-true _ _ (sym c.is_empty.ensures ∙ c.if-is_empty.true))
 
 pub meet-met-requires : goal.meet-met-requires
 meet-met-requires c =
@@ -33,7 +33,7 @@ added : (c : After-replace-self) → out c.replace-self.new.work c.replace-self.
 added c =
     let s = c.args.self.now in
     let m = c.meet-met in
-    run-added s.work.now s.count c.requires s.tidy.1 c.args.x c.find-i.result m.result.next m.result.run _ c.if-x.false c.find-i.ensures m.ensures.2 c.replace-self.ensures
+    run-added s.work.now s.count c.requires s.tidy.1 c.args.x c.find-i.result m.result.next m.result.run _ (leb-false _ _ (sym c.is_empty.ensures ∙ c.if-is_empty.false)) c.find-i.ensures m.ensures.2 c.replace-self.ensures
 
 pub returns-clause-runs : goal.returns-clause-runs
 returns-clause-runs c = added (goal.at.returns-clause-runs c).After-replace-self

@@ -1,6 +1,6 @@
 use Rattle.runs.specs.Flat.{put}
 use borrow.Author.Rules.{rules}
-use Rattle.page_sets.proofs.store.Goals as goal
+use Rattle.runs.proofs.work.write.Goals as goal
 
 pub returns : goal.returns
 unfolding put
