@@ -25,12 +25,9 @@ fn read_clean(
     ensures { clean_seen c.new clean.new dst.new
         ≡ clean_read 16384 8 c.old clean.old (image_in 16384 stored.entry.image stored.entry.mem.now) page within (length dst.old) }
 {
-    let at = match pool::find(&c.pages[..c.count], page) {
+    let at = match pool::find_clean(c, page) {
         Some(at) => at,
-        None => {
-            pool::insert(c, clean, stored, page);
-            c.count - 1
-        }
+        None => pool::insert(c, clean, stored, page),
     };
     let from = at * PAGE_LEN + within;
     memory::copy(dst, &clean[from..]);
