@@ -77,13 +77,8 @@ fn read_range(
         ≡ range_read 16384 8 stored.entry.image stored.entry.mem.now o.old
         (bufs frames.entry.bytes.now frames.entry.numbers.now clean.old «record».now) offset (length dst.old) }
 {
-    let end = offset + (dst.len() as u64);
-    // Counted beside `at`, as `image::read_pages` has it.
-    let mut done = 0;
-    for (at, n) in (Parts { at: offset, end }) {
-        let part = &mut dst[done..done + n];
-        read_page(o, stored, frames, clean, record, at, part);
-        done += n;
+    for (at, place) in Parts::of(offset, dst.len()) {
+        read_page(o, stored, frames, clean, record, at, &mut dst[place]);
     }
 }
 

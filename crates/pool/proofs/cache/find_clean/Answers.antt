@@ -1,5 +1,5 @@
 -- `pool::cache::find_clean` meets its contract.
-use Rattle.std.proofs.Common.{◌≡◌, ◌∙◌, sym, ap, List, ℕ}
+use Rattle.std.proofs.Common.{◌∙◌, sym, ap, List, ℕ}
 use Rattle.pool.specs.Pool.{place_found}
 use Rattle.pool.specs.CacheLaws.{settled_most, settled_cached}
 use Rattle.pool.proofs.cache.find_clean.Goals as goal
