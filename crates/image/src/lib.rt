@@ -33,12 +33,8 @@ fn read_pages(dst: &mut [u8], stored: Stored<'_>, offset: u64)
     requires { offset + length dst.old ≤ 18446744073709551615 }
     ensures { dst.new ≡ tabulate_from offset (length dst.old) (image_in 16384 stored.entry.image stored.entry.mem.now) }
 {
-    let end = offset + (dst.len() as u64);
-    // Counted beside `at`: with `at - offset` in its place a read of 100 bytes takes 18.7 ns and not 17.2.
-    let mut done = 0;
-    for (at, n) in (Parts { at: offset, end }) {
-        pool::read_image(&mut dst[done..done + n], stored, at);
-        done += n;
+    for (at, place) in Parts::of(offset, dst.len()) {
+        pool::read_image(&mut dst[place], stored, at);
     }
 }
 
@@ -95,9 +91,10 @@ pub fn fold(hash: u64, stored: Stored<'_>, from: u64, end: u64) -> u64
 {
     let mut sum = hash;
     let mut page = [0u8; PAGE_LEN];
+    let len = end.saturating_sub(from) as usize;
     // By `for`: the closure of a `fold` would capture the page that it changes.
-    for (at, n) in (Parts { at: from, end }) {
-        sum = fold_part(sum, &mut page[..n], stored, at);
+    for (at, place) in Parts::of(from, len) {
+        sum = fold_part(sum, &mut page[..place.len()], stored, at);
     }
     sum
 }

@@ -25,12 +25,9 @@ fn read_clean(
     ensures { clean_seen c.new clean.new dst.new
         ≡ clean_read 16384 8 c.old clean.old (image_in 16384 stored.entry.image stored.entry.mem.now) page within (length dst.old) }
 {
-    let at = match pool::find(&c.pages[..c.count], page) {
+    let at = match pool::find_clean(c, page) {
         Some(at) => at,
-        None => {
-            pool::insert(c, clean, stored, page);
-            c.count - 1
-        }
+        None => pool::insert(c, clean, stored, page),
     };
     let from = at * PAGE_LEN + within;
     memory::copy(dst, &clean[from..]);
@@ -80,13 +77,8 @@ fn read_range(
         ≡ range_read 16384 8 stored.entry.image stored.entry.mem.now o.old
         (bufs frames.entry.bytes.now frames.entry.numbers.now clean.old «record».now) offset (length dst.old) }
 {
-    let end = offset + (dst.len() as u64);
-    // Counted beside `at`, as `image::read_pages` has it.
-    let mut done = 0;
-    for (at, n) in (Parts { at: offset, end }) {
-        let part = &mut dst[done..done + n];
-        read_page(o, stored, frames, clean, record, at, part);
-        done += n;
+    for (at, place) in Parts::of(offset, dst.len()) {
+        read_page(o, stored, frames, clean, record, at, &mut dst[place]);
     }
 }
 

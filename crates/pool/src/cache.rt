@@ -6,9 +6,9 @@ ghost use Rattle.meta.specs.Runs.{runs_of};
 ghost use Rattle.runs.specs.Sets.{covers};
 ghost use Rattle.update.specs.Pages.{keep_below};
 ghost use Rattle.update.specs.Image.{image_in};
-ghost use Rattle.update.specs.Buffers.{settled, clean_pages};
+ghost use Rattle.update.specs.Buffers.{cached, settled, clean_pages};
 ghost use Rattle.update.specs.Frames.{cache_out, cache_laid, inserted, load_out, load_laid};
-ghost use Rattle.pool.specs.Pool.{Answers, retained_by};
+ghost use Rattle.pool.specs.Pool.{place_found, Answers, retained_by};
 ghost use Rattle.pool.specs.Cache.{CacheFits, room_made};
 
 use crate::{image, pages};
@@ -22,6 +22,14 @@ pub fn settle(c: &mut CleanCache)
 {
     c.count = c.count.min(CleanCache::CAPACITY);
     memory::fill(&mut c.pages[c.count..], 0);
+}
+
+// The frame that `page` is in, if it is cached.
+pub fn find_clean(c: &CleanCache, page: u64) -> Option<usize>
+    requires { c.now ≡ settled 16384 8 c.now }
+    ensures { result ≡ place_found (cached 16384 8 c.now) page }
+{
+    pages::find(&c.pages[..c.count], page)
 }
 
 // The pages that `keep` lets stay.
@@ -56,12 +64,13 @@ fn make_room(c: &mut CleanCache, clean: &mut [u8])
     c.count = CleanCache::CAPACITY - 1;
 }
 
-// The image's page becomes the youngest of the cache.
+// The image's page becomes the youngest of the cache: its frame.
 // A page is a bare number, as page numbers that are lent may be any: only the page of an offset, which `config::page_no` gives, has an offset of its own.
-pub fn insert(c: &mut CleanCache, clean: &mut [u8], stored: Stored<'_>, page: u64)
+pub fn insert(c: &mut CleanCache, clean: &mut [u8], stored: Stored<'_>, page: u64) -> usize
     requires { CacheFits 16384 8 c.old clean.old × (page * 16384 ≤ 18446744073709551615) }
-    ensures { cache_out c.new clean.new
+    ensures taken { cache_out c.new clean.new
         ≡ cache_laid 16384 8 c.old clean.old (inserted 16384 8 (image_in 16384 stored.entry.image stored.entry.mem.now) page (clean_pages 16384 8 c.old clean.old)) }
+    ensures last { result + 1 ≡ c.new.count }
 {
     make_room(c, clean);
     let at = c.count;
@@ -70,6 +79,7 @@ pub fn insert(c: &mut CleanCache, clean: &mut [u8], stored: Stored<'_>, page: u6
     image::read_image(&mut clean[from..end], stored, page * SQLITE_PAGE_SIZE);
     c.pages[at] = page;
     c.count = at + 1;
+    at
 }
 
 // A page that is not dirty is loaded into a frame: zeros if the record covers it, else its clean page, which leaves the cache, else the image's.
@@ -89,7 +99,7 @@ pub fn load(
         memory::fill(frame, 0);
         return;
     }
-    let Some(at) = pages::find(&c.pages[..c.count], page) else {
+    let Some(at) = find_clean(c, page) else {
         image::read_image(frame, stored, page * SQLITE_PAGE_SIZE);
         return;
     };

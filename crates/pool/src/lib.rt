@@ -9,7 +9,7 @@ mod pages;
 mod parts;
 mod record;
 
-pub use cache::{insert, load, retain_clean, retain_clean_below, settle};
+pub use cache::{find_clean, insert, load, retain_clean, retain_clean_below, settle};
 pub use image::{below_size, reach, read_image, read_stored};
 pub use pages::{find, retain, retain_below};
 pub use parts::Parts;

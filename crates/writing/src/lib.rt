@@ -28,13 +28,9 @@ fn write_pages(
         ≡ touched_all 16384 8 18446744073709551615 stored.entry.image stored.entry.mem.now o.old (bufs frames.old numbers.old clean.old «record».now)
         true (copy 16384 offset bytes.now) (offset / 16384) (span 16384 offset (length bytes.now)) }
 {
-    let end = offset + (bytes.len() as u64);
-    // Counted beside `at`, as `image::read_pages` has it.
-    let mut done = 0;
-    for (at, n) in (Parts { at: offset, end }) {
-        let part = &bytes[done..done + n];
+    for (at, place) in Parts::of(offset, bytes.len()) {
+        let part = &bytes[place];
         touch::write_part(o, stored, frames, numbers, clean, record, at, part)?;
-        done += n;
     }
     Ok(())
 }

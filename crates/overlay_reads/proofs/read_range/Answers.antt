@@ -5,6 +5,7 @@ use Prim.Native.Nat.{ℕ, ◌+◌, ◌-◌, ◌≤◌}
 use native.Mathlib.Omega.{arith}
 use mathlib.Core.List.{List, ◌++◌}
 use lib.ListN.{length, take, drop}
+use lib.Seq.{take_all}
 use borrow.Rule.Slice.PartMut.{put_mid}
 use borrow.Author.Rules.{rules}
 use Rattle.std.specs.Prelude.{Ok}
@@ -19,15 +20,20 @@ pub loop-at-init : goal.loop-at-init
 loop-at-init c =
     let a = c.args in
     let i = c.into_iter-at-iterator in
-    let at : i.result.at ≡ a.offset = λ j. (i.ensures.into_iter_gives j).at in
-    let end : i.result.end ≡ a.offset + length a.dst.now = λ j. (i.ensures.into_iter_gives j).end in
+    let is = i.ensures.into_iter_gives in
+    let of = c.of-at-items.ensures in
+    let done : i.result.done ≡ 0 = (λ j. (is j).done) ∙ of.1 in
+    let len : i.result.len ≡ length a.dst.now = (λ j. (is j).len) ∙ of.2 in
+    let b = bufs a.frames.bytes.now a.frames.numbers.now a.clean.now a.«record».now in
+    let front = λ (d : ℕ). seen a.o.now b (take d a.dst.now) (Ok true) in
+    let all = range_read 16384 8 a.stored.image a.stored.mem.now a.o.now b a.offset in
     record {
-      at = omega (arith, at);
-      within = omega (arith, at, end);
-      end = end;
+      at = (λ j. (is j).offset) ∙ of.0;
+      within = omega (arith, done, len);
+      end = len;
       dst = search rules;
       clean = search rules;
-      read = sym (range_none 16384 8 (omega arith) (omega arith) _ _ _ _ c.requires.0 _);
+      read = ap front done ∙ sym (range_none 16384 8 (omega arith) (omega arith) _ _ _ _ c.requires.0 _) ∙ ap all (sym done);
     }
 
 pub read_page-requires : goal.read_page-requires
@@ -35,11 +41,12 @@ read_page-requires c =
     let x = c.loop-at in
     let v = x.invariant in
     let s = c.in-Some.ensures.steps in
-    let k : ℕ = x.done + c.in-Some.n - x.done in
-    let fit : x.done + k ≤ length x.dst = omega (arith, s.0, s.2, v.at, v.end) in
-    let long : length (take k (drop x.done x.dst)) ≡ k = length_part x.done k x.dst fit in (
+    let from : ℕ = c.in-Some.place.start in
+    let k : ℕ = c.in-Some.place.end - from in
+    let fit : from + k ≤ length x.dst = omega (arith, s.0, s.2, s.3, v.end) in
+    let long : length (take k (drop from x.dst)) ≡ k = length_part from k x.dst fit in (
       range_fits 16384 8 (omega arith) (omega arith) _ _ _ _ c.requires.0 _ _ _ _ _ v.read,
-      omega (arith, long, s.1, s.2),
+      omega (arith, long, s.1, s.2, s.3),
     )
 
 pub loop-at-preserved : goal.loop-at-preserved
@@ -51,25 +58,40 @@ loop-at-preserved c =
     let p = c.read_page in
     let b = bufs a.frames.bytes.now a.frames.numbers.now in
     let l = b p.new.clean a.«record».now in
-    let n : ℕ = c.in-Some.n in
-    let k : ℕ = x.done + n - x.done in
-    let fit : x.done + k ≤ length x.dst = omega (arith, s.0, s.2, v.at, v.end) in
-    let long : length (take k (drop x.done x.dst)) ≡ k = length_part x.done k x.dst fit in
-    let o : c.in-Some.at ≡ a.offset + x.done = omega (arith, s.1, v.at) in
-    let part = p.ensures ∙ ap (λ (y : ℕ). page_read 16384 8 a.stored.image a.stored.mem.now x.o (b x.clean a.«record».now) y (length (take k (drop x.done x.dst)))) o in
-    let all = range_step 16384 8 (omega arith) (omega arith) _ _ _ _ c.requires.0 a.offset x.done k _ _ _ v.read
-    (omega (arith, s.0, s.2)) (omega (arith, s.1, s.2, v.at)) (omega (arith, c.requires.1, fit, v.dst, s.0, v.at))
-    p.new.o l p.new.dst (length (take k (drop x.done x.dst))) long part in
+    let done : ℕ = x.at-iterator.done in
+    let from : ℕ = c.in-Some.place.start in
+    let k : ℕ = c.in-Some.place.end - from in
+    let next : ℕ = c.next.new.self.done in
+    let fit : from + k ≤ length x.dst = omega (arith, s.0, s.2, s.3, v.end) in
+    let long : length (take k (drop from x.dst)) ≡ k = length_part from k x.dst fit in
+    let o : c.in-Some.at ≡ a.offset + from = omega (arith, s.1, s.2, v.at) in
+    let e : next ≡ from + k = omega (arith, s.2, s.3, s.5) in
+    let part = p.ensures ∙ ap (λ (y : ℕ). page_read 16384 8 a.stored.image a.stored.mem.now x.o (b x.clean a.«record».now) y (length (take k (drop from x.dst)))) o in
+    let so_far = ap (λ (d : ℕ). seen x.o (b x.clean a.«record».now) (take d x.dst) (Ok true)) s.2 ∙ v.read
+    ∙ ap (range_read 16384 8 a.stored.image a.stored.mem.now a.o.now (b a.clean.now a.«record».now) a.offset) (sym s.2) in
+    let all = range_step 16384 8 (omega arith) (omega arith) _ _ _ _ c.requires.0 a.offset from k _ _ _ so_far
+    (omega (arith, s.0, s.2, s.3)) (omega (arith, s.1, s.2, s.3, v.at)) (omega (arith, c.requires.1, fit, v.dst, s.0, s.2, v.end))
+    p.new.o l p.new.dst (length (take k (drop from x.dst))) long part in
     let new : List ℕ = p.new.dst in
-    let front : take (x.done + n) (put_mid x.done k x.dst new) ≡ take x.done x.dst ++ new =
-    ap (λ (m : ℕ). take m (put_mid x.done k x.dst new)) {x = x.done + n} {y = x.done + k} (omega arith) ∙ part_front x.done k x.dst new (p.auto.dst ∙ long) fit in
-    let same : length (put_mid x.done k x.dst new) ≡ length a.dst.now = search rules in
+    let front : take next (put_mid from k x.dst new) ≡ take from x.dst ++ new =
+    ap (λ (m : ℕ). take m (put_mid from k x.dst new)) e ∙ part_front from k x.dst new (p.auto.dst ∙ long) fit in
+    let same : length (put_mid from k x.dst new) ≡ length a.dst.now = search rules in
     record {
-      at = omega (arith, s.3, v.at);
-      within = omega (arith, s.0, s.2, s.3, s.4);
-      end = s.4 ∙ v.end ∙ ap (λ (m : ℕ). a.offset + m) (v.dst ∙ sym same);
+      at = s.4 ∙ v.at;
+      within = omega (arith, s.0, s.3, s.5, s.6);
+      end = s.6 ∙ v.end ∙ v.dst ∙ sym same;
       dst = same;
       clean = search rules;
       read = ap (λ (y : List ℕ). seen p.new.o l y (Ok true)) front ∙ all
-          ∙ ap (range_read 16384 8 a.stored.image a.stored.mem.now a.o.now (b a.clean.now a.«record».now) a.offset) {x = x.done + k} {y = x.done + n} (omega arith);
+          ∙ ap (range_read 16384 8 a.stored.image a.stored.mem.now a.o.now (b a.clean.now a.«record».now) a.offset) (sym e);
     }
+
+pub returns : goal.returns
+returns c =
+    let a = c.args in
+    let x = c.loop-at in
+    let v = x.invariant in
+    let done : ℕ = x.at-iterator.done in
+    let full : done ≡ length x.dst = omega (arith, v.within, v.end, c.in-None.ensures.steps) in
+    ap (λ (y : List ℕ). seen x.o (bufs a.frames.bytes.now a.frames.numbers.now x.clean a.«record».now) y (Ok true)) (sym (take_all done x.dst (omega (arith, full)))) ∙ v.read
+    ∙ ap (range_read 16384 8 a.stored.image a.stored.mem.now a.o.now (bufs a.frames.bytes.now a.frames.numbers.now a.clean.now a.«record».now) a.offset) (full ∙ v.dst)

@@ -1,38 +1,78 @@
 -- `writing::write_pages` meets its contract: the bytes that are left, written on, come to what all of them were to come to.
-use mathlib.Core.Path.{◌≡◌, ◌∙◌}
-use Prim.Native.Nat.{ℕ, ◌+◌, ◌-◌, ◌/◌, ◌%◌, ◌<◌, min}
+use mathlib.Core.Path.{◌≡◌, sym, ap, ◌∙◌}
+use Prim.Native.Nat.{ℕ, ◌+◌, ◌-◌, ◌/◌, ◌%◌, ◌≤◌, ◌<◌, min}
 use native.Mathlib.Omega.{arith}
 use mathlib.Core.Bool.{true}
 use lib.ListN.{length, take, drop}
 use borrow.Author.Rules.{rules}
 use Rattle.std.proofs.lemmas.Result.{err_from_is_err_and}
+use Rattle.memory.specs.Laws.{length_part}
+use Rattle.update.specs.Pages.{span}
 use Rattle.update.specs.Update.{copy}
-use Rattle.update.specs.Laid.{bufs, touched}
+use Rattle.update.specs.Laid.{bufs, touched, touched_all}
 use Rattle.update.specs.LeaveLaws.{told}
 use Rattle.update.specs.FitLaws.{touched_fits}
-use Rattle.writing.specs.WriteLaws.{pages_next, pages_stop, pages_aligned, pages_done}
+use Rattle.writing.specs.WriteLaws.{pages_all, pages_next, pages_stop, pages_aligned, pages_done}
 use Rattle.writing.proofs.write_pages.Goals as goal
 use Rattle.writing.proofs.write_pages.Goals.{After-write_part}
 
-more : (c : After-write_part) → c.loop-at.done < length c.args.bytes.now
-more c = let v = c.loop-at.invariant in omega (arith, v.at, v.end, c.in-Some.ensures.steps.0)
+more : (c : After-write_part) → c.loop-at.at-iterator.done < length c.args.bytes.now
+more c = let v = c.loop-at.invariant in omega (arith, v.end, c.in-Some.ensures.steps.0)
+
+-- how long the part is
+abbrev many : After-write_part → ℕ
+many c = c.in-Some.place.end - c.in-Some.place.start
 
 -- the part is what is left of its page, or of the bytes
-part : (c : After-write_part) → c.in-Some.n ≡ min (16384 - (c.args.offset + c.loop-at.done) % 16384) (length c.args.bytes.now - c.loop-at.done)
-part c = let v = c.loop-at.invariant in omega (arith, v.at, v.end, c.in-Some.ensures.steps.2)
+part : (c : After-write_part) → many c ≡ min (16384 - (c.args.offset + c.loop-at.at-iterator.done) % 16384) (length c.args.bytes.now - c.loop-at.at-iterator.done)
+part c =
+    let v = c.loop-at.invariant in
+    let s = c.in-Some.ensures.steps in
+    omega (arith, v.at, v.end, s.2, s.3)
 
 -- it is written as these bytes at this place
-first : (c : After-write_part) → let a = c.args in let x = c.loop-at in let n : ℕ = c.in-Some.n in
+first : (c : After-write_part) → let a = c.args in let x = c.loop-at in let done : ℕ = x.at-iterator.done in let from : ℕ = c.in-Some.place.start in
     let l = bufs x.frames x.numbers x.clean a.«record».now in
-    touched 16384 8 18446744073709551615 a.stored.image a.stored.mem.now x.o l true (copy 16384 (a.offset + x.done) (take n (drop x.done a.bytes.now))) ((a.offset + x.done) / 16384)
-    ≡ touched 16384 8 18446744073709551615 a.stored.image a.stored.mem.now x.o l true (copy 16384 c.in-Some.at (take (x.done + n - x.done) (drop x.done a.bytes.now))) (c.in-Some.at / 16384)
+    touched 16384 8 18446744073709551615 a.stored.image a.stored.mem.now x.o l true (copy 16384 (a.offset + done) (take (many c) (drop done a.bytes.now))) ((a.offset + done) / 16384)
+    ≡ touched 16384 8 18446744073709551615 a.stored.image a.stored.mem.now x.o l true (copy 16384 c.in-Some.at (take (many c) (drop from a.bytes.now))) (c.in-Some.at / 16384)
 first c =
     let a = c.args in
     let x = c.loop-at in
-    let n : ℕ = c.in-Some.n in
-    let o : a.offset + x.done ≡ c.in-Some.at = omega (arith, c.in-Some.ensures.steps.1, x.invariant.at) in
-    let k : n ≡ x.done + n - x.done = omega arith in
-    λ j. touched 16384 8 18446744073709551615 a.stored.image a.stored.mem.now x.o (bufs x.frames x.numbers x.clean a.«record».now) true (copy 16384 (o j) (take (k j) (drop x.done a.bytes.now))) (o j / 16384)
+    let s = c.in-Some.ensures.steps in
+    let o : a.offset + x.at-iterator.done ≡ c.in-Some.at = omega (arith, s.1, x.invariant.at) in
+    let from : x.at-iterator.done ≡ c.in-Some.place.start = sym s.2 in
+    λ j. touched 16384 8 18446744073709551615 a.stored.image a.stored.mem.now x.o (bufs x.frames x.numbers x.clean a.«record».now) true (copy 16384 (o j) (take (many c) (drop (from j) a.bytes.now))) (o j / 16384)
+
+pub loop-at-init : goal.loop-at-init
+loop-at-init c =
+    let a = c.args in
+    let i = c.into_iter-at-iterator in
+    let is = i.ensures.into_iter_gives in
+    let of = c.of-at-items.ensures in
+    let done : i.result.done ≡ 0 = (λ j. (is j).done) ∙ of.1 in
+    let len : i.result.len ≡ length a.bytes.now = (λ j. (is j).len) ∙ of.2 in
+    let l = bufs a.frames.now a.numbers.now a.clean.now a.«record».now in
+    let rest = λ (d : ℕ). touched_all 16384 8 18446744073709551615 a.stored.image a.stored.mem.now a.o.now l true (copy 16384 a.offset a.bytes.now) ((a.offset + d) / 16384) (span 16384 (a.offset + d) (length a.bytes.now - d)) in
+    record {
+      at = (λ j. (is j).offset) ∙ of.0;
+      within = omega (arith, done, len);
+      end = len;
+      aligned = λ h _. omega (arith, h, done);
+      frames = search rules;
+      numbers = search rules;
+      clean = search rules;
+      fits = c.requires.0;
+      written = ap rest done ∙ pages_all 16384 8 (omega arith) _ _ c.requires.0 _ _ _ _ _;
+    }
+
+pub write_part-requires : goal.write_part-requires
+write_part-requires c =
+    let x = c.loop-at in
+    let s = c.in-Some.ensures.steps in
+    let from : ℕ = c.in-Some.place.start in
+    let k : ℕ = c.in-Some.place.end - from in
+    let fit : from + k ≤ length c.args.bytes.now = omega (arith, s.0, s.2, s.3, x.invariant.end) in
+    (x.invariant.fits, omega (arith, length_part from k c.args.bytes.now fit, s.1, s.2, s.3))
 
 pub returns-in_err-write_part : goal.returns-in_err-write_part
 returns-in_err-write_part c =
@@ -43,7 +83,7 @@ returns-in_err-write_part c =
     let y = c.write_part.new in
     let r = bufs y.frames y.numbers y.clean c.args.«record».now in
     let t = told {l = r} c.write_part.ensures c.in_err-write_part.was in
-    rw (p.1, p.2) (pages_stop 16384 8 (omega arith) _ _ v.fits _ _ _ _ _ x.done c.in-Some.n (more w) (part w) (λ h. v.aligned h (more w)) y.o r _ (first w ∙ t) ∙ v.written)
+    rw (p.1, p.2) (pages_stop 16384 8 (omega arith) _ _ v.fits _ _ _ _ _ x.at-iterator.done (many w) (more w) (part w) (λ h. v.aligned h (more w)) y.o r _ (first w ∙ t) ∙ v.written)
 
 pub loop-at-preserved : goal.loop-at-preserved
 loop-at-preserved c =
@@ -52,25 +92,29 @@ loop-at-preserved c =
     let l = bufs x.frames x.numbers x.clean a.«record».now in
     let v = x.invariant in
     let s = c.in-Some.ensures.steps in
-    let n : ℕ = c.in-Some.n in
     let w = (goal.at.loop-at-preserved c).After-write_part in
+    let done : ℕ = x.at-iterator.done in
+    let next : ℕ = c.next.new.self.done in
+    let n : ℕ = many w in
+    let e : next ≡ done + n = omega (arith, s.2, s.3, s.5) in
     let y = c.write_part.new in
     let r = bufs y.frames y.numbers y.clean a.«record».now in
     let t = told {l = r} c.write_part.ensures c.in_ok-write_part.was in
+    let rest = λ (d : ℕ). touched_all 16384 8 18446744073709551615 a.stored.image a.stored.mem.now y.o r true (copy 16384 a.offset a.bytes.now) ((a.offset + d) / 16384) (span 16384 (a.offset + d) (length a.bytes.now - d)) in
     record {
-      at = omega (arith, s.3, v.at);
-      within = omega (arith, s.0, s.2, s.3, s.4);
-      end = s.4 ∙ v.end;
-      aligned = pages_aligned 16384 8 (omega arith) x.o l v.fits 18446744073709551615 a.stored.image a.stored.mem.now a.offset a.bytes.now x.done n (more w) (part w) (λ h. v.aligned h (more w));
+      at = s.4 ∙ v.at;
+      within = omega (arith, s.0, s.3, s.5, s.6);
+      end = s.6 ∙ v.end;
+      aligned = λ h k. rw e (pages_aligned 16384 8 (omega arith) x.o l v.fits 18446744073709551615 a.stored.image a.stored.mem.now a.offset a.bytes.now done n (more w) (part w) (λ h. v.aligned h (more w)) (omega (arith, h, e)) (omega (arith, k, e)));
       frames = search rules;
       numbers = search rules;
       clean = search rules;
       fits = touched_fits 16384 8 (omega arith) _ _ v.fits _ _ _ _ _ _ t;
-      written = pages_next 16384 8 (omega arith) _ _ v.fits _ _ _ _ _ x.done n (more w) (part w) (λ h. v.aligned h (more w)) y.o r (first w ∙ t) ∙ v.written;
+      written = ap rest e ∙ pages_next 16384 8 (omega arith) _ _ v.fits _ _ _ _ _ done n (more w) (part w) (λ h. v.aligned h (more w)) y.o r (first w ∙ t) ∙ v.written;
     }
 
 pub returns : goal.returns
 returns c =
     let x = c.loop-at in
     let v = x.invariant in
-    pages_done 16384 8 (omega arith) _ _ v.fits _ _ _ _ _ x.done (omega (arith, v.at, v.end, c.in-None.ensures.steps)) ∙ v.written
+    pages_done 16384 8 (omega arith) _ _ v.fits _ _ _ _ _ x.at-iterator.done (omega (arith, v.within, v.end, c.in-None.ensures.steps)) ∙ v.written

@@ -31,18 +31,24 @@ overflow_add-end c = omega (arith, few (goal.at.overflow_add-end c).After-make_r
 pub slice_bounds-read_image-end : goal.slice_bounds-read_image-end
 slice_bounds-read_image-end c = omega (arith, few (goal.at.slice_bounds-read_image-end c).After-make_room)
 
+pub offset_bounds-c-at : goal.offset_bounds-c-at
+offset_bounds-c-at c = omega (arith, few (goal.at.offset_bounds-c-at c).After-make_room)
+
 pub bounds-c-at : goal.bounds-c-at
 bounds-c-at c = omega (arith, few (goal.at.bounds-c-at c).After-make_room)
 
-pub returns : goal.returns
-returns c =
+pub overflow_add-c : goal.overflow_add-c
+overflow_add-c c = omega (arith, few (goal.at.overflow_add-c c).After-make_room)
+
+pub returns-clause-taken : goal.returns-clause-taken
+returns-clause-taken c =
     let a = c.args in
     let n = c.make_room.new.c.count in
     let l : List ℕ = c.make_room.new.clean in
     let new : List ℕ = c.read_image.new.dst in
     let k : ℕ = n * 16384 + 16384 - n * 16384 in
     let e : k ≡ 16384 = omega arith in
-    let fits : n * 16384 + k ≤ length l = omega (arith, few (goal.at.returns c).After-make_room) in
+    let fits : n * 16384 + k ≤ length l = omega (arith, few (goal.at.returns-clause-taken c).After-make_room) in
     let long : length (take k (drop (n * 16384) l)) ≡ 16384 = length_part (n * 16384) k l fits ∙ e in
     let image : new ≡ image_page 16384 (image_in 16384 a.stored.image a.stored.mem.now) a.page =
     c.read_image.ensures ∙ ap (image_part 16384 a.stored.image a.stored.mem.now (a.page * 16384)) long ∙ page_is 16384 (omega arith) a.stored.image a.stored.mem.now a.page in

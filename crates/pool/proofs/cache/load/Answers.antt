@@ -4,9 +4,6 @@ use Prim.Native.Nat.{ℕ, ◌<◌, ◌+◌, ◌-◌, ◌*◌, ◌≤◌}
 use native.Mathlib.Omega.{arith}
 use mathlib.Core.List.{List}
 use lib.ListN.{length, take, drop, length-drop}
-use Rattle.std.proofs.Common.{length-take-le}
-use Rattle.update.specs.declared.CleanCache.{CleanCache}
-use Rattle.update.specs.Buffers.{settled}
 use Rattle.pool.specs.PoolLaws.{found_at, found_none}
 use Rattle.memory.specs.Bytes.{zeros, resize, overwrite}
 use Rattle.meta.specs.Runs.{runs_of}
@@ -21,15 +18,9 @@ use borrow.Author.Rules.{rules}
 use Rattle.std.specs.Prelude.{false}
 use Rattle.pool.specs.Pool.{stays}
 use Rattle.pool.specs.WalkLaws.{retained_stays}
-use Rattle.pool.specs.CacheLaws.{settled-length, settled_most, settled_cached, load_covered, load_hit, load_miss}
+use Rattle.pool.specs.CacheLaws.{settled_count, settled_most, load_covered, load_hit, load_miss}
 use Rattle.pool.proofs.cache.load.Goals as goal
 use Rattle.pool.proofs.cache.load.Goals.{In-Some}
-
--- the numbers that are searched
-used : (c : CleanCache) → c ≡ settled 16384 8 c → (length (take c.count c.pages) ≡ c.count) × (c.count ≤ length c.pages) × (c.count ≤ 8)
-used c ok =
-    let n : c.count ≤ length c.pages = omega (arith, settled_most 16384 8 c ok, settled-length 16384 8 c ok) in
-    (length-take-le c.count c.pages n, n, settled_most 16384 8 c ok)
 
 -- a frame of the cache, copied
 frame-copied : (at : ℕ) (l f : List ℕ) → length f ≡ 16384 → at * 16384 + 16384 ≤ length l
@@ -42,27 +33,21 @@ returns-then-covers_page c =
     ap (λ (f : List ℕ). load_out a.c.now f a.clean.now) (c.fill.ensures ∙ ap zeros c.requires.1)
     ∙ load_covered 16384 8 a.c.now c.requires.0.0 a.clean.now (image_in 16384 a.stored.image a.stored.mem.now) (covers (runs_of a.recorded.numbers.now) a.page) a.page (sym c.covers_page.ensures ∙ c.if-covers_page.true)
 
-pub shared_ref_as_front-find : goal.shared_ref_as_front-find
-shared_ref_as_front-find c = (used c.args.c.now c.requires.0.0).2
-
 pub returns-in_default : goal.returns-in_default
 returns-in_default c =
     let a = c.args in
-    let miss : length (take a.c.now.count a.c.now.pages) ≤ place_of (take a.c.now.count a.c.now.pages) a.page = found_none (take a.c.now.count a.c.now.pages) a.page c.in_default.ensures in
-    let same : place_of (cached 16384 8 a.c.now) a.page ≡ place_of (take a.c.now.count a.c.now.pages) a.page = ap (λ (ns : List ℕ). place_of ns a.page) (settled_cached 16384 8 a.c.now c.requires.0.0) in
     let image : c.read_image.new.dst ≡ image_page 16384 (image_in 16384 a.stored.image a.stored.mem.now) a.page =
     rw c.requires.1 at c.read_image.ensures ∙ page_is 16384 (omega arith) a.stored.image a.stored.mem.now a.page in
     rw image (load_miss 16384 8 a.c.now c.requires.0.0 a.clean.now (image_in 16384 a.stored.image a.stored.mem.now) (covers (runs_of a.recorded.numbers.now) a.page) a.page (sym c.covers_page.ensures ∙ c.if-covers_page.false) (omega arith) c.requires.0.1
-    (omega (arith, miss, same, used a.c.now c.requires.0.0)))
+    (omega (arith, found_none (cached 16384 8 a.c.now) a.page c.in_default.ensures, settled_count 16384 8 a.c.now c.requires.0.0)))
 
 -- the place found is a frame of the cache
 hit : (c : In-Some) → (c.in-Some.at ≡ place_of (cached 16384 8 c.args.c.now) c.args.page) × (c.in-Some.at < c.args.c.now.count) × (c.in-Some.at * 16384 + 16384 ≤ length c.args.clean.now)
 hit c =
     let a = c.args in
-    let f = found_at (take a.c.now.count a.c.now.pages) a.page c.in-Some.at c.in-Some.ensures in
-    let u = used a.c.now c.requires.0.0 in
-    let k : c.in-Some.at < a.c.now.count = omega (arith, f.1, u.0) in
-    (f.0 ∙ ap (λ (ns : List ℕ). place_of ns a.page) (sym (settled_cached 16384 8 a.c.now c.requires.0.0)), k, omega (arith, k, u.2, c.requires.0.1))
+    let f = found_at (cached 16384 8 a.c.now) a.page c.in-Some.at c.in-Some.ensures in
+    let k : c.in-Some.at < a.c.now.count = omega (arith, f.1, settled_count 16384 8 a.c.now c.requires.0.0) in
+    (f.0, k, omega (arith, k, settled_most 16384 8 a.c.now c.requires.0.0, c.requires.0.1))
 
 pub returns : goal.returns
 returns c =
