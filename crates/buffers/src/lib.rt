@@ -32,16 +32,12 @@ pub fn settle(o: &mut Overlay)
 pub fn dirty_page<'a>(o: Overlay, frames: &'a [u8], numbers: &[u64], page: u64) -> &'a [u8]
     ensures { result.now ≡ dirty_page 16384 8 o frames.now numbers.now page }
 {
-    let used = o.dirty.min(numbers.len());
-    let Some(at) = pool::find(&numbers[..used], page) else {
-        return &frames[..0];
-    };
-    if frames.len() / PAGE_LEN <= at {
-        return &frames[..0];
+    let (pages, _) = frames.as_chunks::<PAGE_LEN>();
+    let used = &numbers[..o.dirty.min(numbers.len())];
+    match pool::find(used, page).and_then(|at| pages.get(at)) {
+        Some(shown) => shown,
+        None => &[],
     }
-    let from = at * PAGE_LEN;
-    let end = from + PAGE_LEN;
-    &frames[from..end]
 }
 
 // At the end of an update all of its slices become zeros.

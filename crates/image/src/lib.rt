@@ -1,11 +1,10 @@
 // The image in the lent memory: its bytes, its checksum, and its superblock stored anew.
 #![tactic(auto)]
 
-ghost use Rattle.std.specs.Prelude.{◌≡◌, ◌+◌, ◌-◌, ◌*◌, ◌≤◌, length, take};
+ghost use Rattle.std.specs.Prelude.{◌≡◌, ◌+◌, ◌-◌, ◌≤◌, length};
 ghost use Rattle.memory.specs.Bytes.{zeros};
 ghost use Rattle.fnv.specs.Fnv.{fold as folded};
 ghost use Rattle.meta.specs.Stored.{outcome};
-ghost use Rattle.image_runs.specs.Image.{image_count, image_numbers};
 ghost use Rattle.update.specs.Lists.{tabulate_from};
 ghost use Rattle.update.specs.Image.{image_in, image_part};
 ghost use Rattle.pool.specs.Stored.{stored as held};
@@ -62,12 +61,8 @@ fn fold_zeros(hash: u64, page: &mut [u8]) -> u64
 fn fold_stored(hash: u64, page: &mut [u8], stored: Stored<'_>, at: u64) -> u64
     ensures { result ≡ folded hash (held stored.entry.image stored.entry.mem.now at (length page.old)) }
 {
-    let image = stored.image;
-    let end = pool::reach(image.base, image.size, stored.mem.len());
-    let from = pool::reach(image.base, at, end);
-    if page.len() <= end - from {
-        let to = from + page.len();
-        return meta::fold_fnv1a64(hash, &stored.mem[from..to]);
+    if let Some(bytes) = pool::stored_from(stored, at).get(..page.len()) {
+        return meta::fold_fnv1a64(hash, bytes);
     }
     pool::read_stored(page, stored, at);
     meta::fold_fnv1a64(hash, page)
@@ -99,22 +94,13 @@ pub fn fold(hash: u64, stored: Stored<'_>, from: u64, end: u64) -> u64
     sum
 }
 
-// The numbers of the image's runs in front of `out`: how many there are.
-fn copy_runs(out: &mut [u64], mem: &[u8], count: usize) -> usize
-    requires { 2048 ≤ length out.old }
-    ensures { (result ≡ image_count count mem.now * 2) × (take result out.new ≡ image_numbers count mem.now) }
-{
-    let stored = image_runs::stored(mem, count);
-    let n = stored.count() * 2;
-    words::read_into(&mut out[..n], stored.bytes, 0);
-    n
-}
-
 // The block goes to the front of memory, with the image's runs as they are there: the block as it is stored.
 pub fn restore(b: Superblock, mem: &mut [u8]) -> Superblock
     ensures { outcome result mem.new ≡ outcome (resealed b mem.old) (restored b mem.old) }
 {
     let mut runs = [0u64; 2 * Superblock::MAX_ZERO_EXTENTS as usize];
-    let n = copy_runs(&mut runs, mem, b.zero_extent_count as usize);
-    b.store(&runs[..n], mem)
+    let stored = image_runs::stored(mem, b.zero_extent_count as usize);
+    let used = &mut runs[..stored.count() * 2];
+    words::read_into(used, stored.bytes, 0);
+    b.store(used, mem)
 }

@@ -11,6 +11,7 @@ use Rattle.runs.specs.Sets.{covers}
 use Rattle.image_runs.specs.Image.{image_runs}
 use Rattle.update.specs.declared.Image.{Image}
 use Rattle.update.specs.Image.{image_part}
+use Rattle.update.specs.ListLaws.{resize-take}
 
 -- n bytes from offset o on: "the bytes at base + page × 16,384; past the size it is zeros", and past the end of memory too
 unfoldable pub stored : Image → List ℕ → ℕ → ℕ → List ℕ
@@ -66,3 +67,8 @@ module _ (i : Image) (mem : List ℕ) (o n : ℕ) where
       let l : k < n = subst (λ (x : ℕ). k < x) (length-resize n (drop from (take end mem))) h in
       resize_in n (drop from (take end mem)) k l ∙ get_or-drop from (take end mem) k 0 ∙ get_or-take end mem (from + k) 0 (omega arith)
       ∙ sym (get_or-take n (drop from mem) k 0 l ∙ get_or-drop from mem k 0))
+
+-- enough of it in memory, below the size
+pub stored_whole : (i : Image) (mem : List ℕ) (o n : ℕ) → n ≤ length (take (i.size - o) (drop (i.base + o) mem)) → stored i mem o n ≡ take n (take (i.size - o) (drop (i.base + o) mem))
+unfolding stored
+stored_whole i mem o n h = resize-take n (take (i.size - o) (drop (i.base + o) mem)) h

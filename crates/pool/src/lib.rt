@@ -10,7 +10,7 @@ mod parts;
 mod record;
 
 pub use cache::{find_clean, insert, load, retain_clean, retain_clean_below, settle};
-pub use image::{below_size, reach, read_image, read_stored};
+pub use image::{below_size, reach, read_image, read_stored, stored_from};
 pub use pages::{find, retain, retain_below};
 pub use parts::Parts;
 pub use record::push_run;

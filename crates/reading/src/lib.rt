@@ -29,7 +29,7 @@ pub fn file_size(s: &State) -> u64
 fn is_full(size: u64, offset: u64, n: usize) -> bool
     ensures { result ≡ full 16384 65536 8 1024 18446744073709551615 real_codec size offset n }
 {
-    n == 0 || (offset <= size && (n as u64) <= size - offset)
+    pool::below_size(n, size, offset) == n
 }
 
 // All of `dst` is read from `offset` on; "bytes past the size are zeros": whether the read is full. "Only 35 can refuse a read."
@@ -74,7 +74,7 @@ pub fn dirty_page<'a>(s: &State, frames: &'a [u8], numbers: &[u64], page: u64) -
     ensures { result.now ≡ dirty_in 16384 65536 8 1024 18446744073709551615 real_codec (mode_of s.now) frames.now numbers.now page }
 {
     if !s.updating {
-        return &frames[..0];
+        return &[];
     }
     overlay::dirty_page(s.overlay, frames, numbers, page)
 }
