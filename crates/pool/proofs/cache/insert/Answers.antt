@@ -31,14 +31,8 @@ overflow_add-end c = omega (arith, few (goal.at.overflow_add-end c).After-make_r
 pub slice_bounds-read_image-end : goal.slice_bounds-read_image-end
 slice_bounds-read_image-end c = omega (arith, few (goal.at.slice_bounds-read_image-end c).After-make_room)
 
-pub offset_bounds-c-at : goal.offset_bounds-c-at
-offset_bounds-c-at c = omega (arith, few (goal.at.offset_bounds-c-at c).After-make_room)
-
 pub bounds-c-at : goal.bounds-c-at
 bounds-c-at c = omega (arith, few (goal.at.bounds-c-at c).After-make_room)
-
-pub overflow_add-c : goal.overflow_add-c
-overflow_add-c c = omega (arith, few (goal.at.overflow_add-c c).After-make_room)
 
 pub returns-clause-taken : goal.returns-clause-taken
 returns-clause-taken c =

@@ -49,6 +49,15 @@ hit c =
     let k : c.in-Some.at < a.c.now.count = omega (arith, f.1, settled_count 16384 8 a.c.now c.requires.0.0) in
     (f.0, k, omega (arith, k, settled_most 16384 8 a.c.now c.requires.0.0, c.requires.0.1))
 
+pub overflow_mul-from : goal.overflow_mul-from
+overflow_mul-from c = omega (arith, hit c)
+
+pub slice_bounds-copy-count : goal.slice_bounds-copy-count
+slice_bounds-copy-count c = omega (arith, hit (goal.at.slice_bounds-copy-count c).In-Some)
+
+pub slice_bounds-copy-start : goal.slice_bounds-copy-start
+slice_bounds-copy-start c = omega (arith, hit (goal.at.slice_bounds-copy-start c).In-Some)
+
 pub returns : goal.returns
 returns c =
     let a = c.args in
