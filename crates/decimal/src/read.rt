@@ -38,6 +38,7 @@ pub fn skip(text: &[u8], at: usize, word: &[u8]) -> Option<usize>
 }
 
 // The number whose digits go on at `at`, where `first` is the value of those before; none is from 2^64 on.
+// By `enumerate`, as the place is answered: `position`, and a `try_fold` of what stands before it, would be two passes.
 fn digits(text: &[u8], at: usize, first: u64) -> Option<Found<u64>>
     requires { at ≤ length text.now }
     ensures { found_in text.now result ≡ readDigits first (from text.now at) }

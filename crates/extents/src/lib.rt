@@ -120,7 +120,7 @@ fn settle(set: &mut RunSet<'_>, change: Change<'_>) -> Result<usize, Refusal>
 }
 
 // The plan on an image's runs, any that are no more than 1,024: how many zero runs the image has after the change, which stand in front of the work list; or 31.
-// No slice of the list: of a lent list that a result borrows a contract cannot say what it holds at the end, as plan_text's `Parsed`
+// No slice of the list: of a lent list that a result borrows to be read a contract cannot say what it holds at the end, as plan_text's `Parsed`
 // says, tried there; and at 31 the list is all zeros, which is promised too.
 pub fn plan<L: RunList>(work: &mut [u64], image: L, change: Change<'_>) -> Result<usize, Refusal>
     requires { (length (L.runs image) ≤ 1024) × (room (length change.dirty.now) ≤ length work.old) }

@@ -1,4 +1,5 @@
 // The text of the program zeroplan: what it reads, and what it writes.
+// The three lent buffers are parameters of their own: a struct of them would be made for each call and taken apart in it.
 #![tactic(auto)]
 
 mod section;
@@ -12,7 +13,7 @@ use plan_line::{are_distinct, is_ascending, none_is_empty, read_field};
 pub use plan_report::{PlanError, print};
 
 // The two sizes, and how many lines there are of each kind.
-// Not slices of the buffers, tried: of a lent buffer that a result borrows a contract cannot say what it holds at the end, and
+// Not slices of the buffers, tried: of a lent buffer that a result borrows to be read a contract cannot say what it holds at the end, and
 // `parse` says it also of a malformed text.
 #[derive(Clone, Copy, Debug, PartialEq, Eq)]
 pub struct Parsed {
