@@ -149,6 +149,7 @@ impl Superblock {
         requires { length out.old ≡ 16544 }
         ensures { out.new ≡ overwrite 0 (block_bytes self runs.now) out.old }
     {
+        // By a product, and by a quotient in `decode`, as the definition has it: a shift says no more.
         let sizes = u64::from(self.version) + u64::from(self.sqlite_page_size) * 0x1_0000_0000;
         write_word(out, 0, self.magic);
         write_word(out, 8, sizes);

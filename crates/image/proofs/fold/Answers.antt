@@ -1,24 +1,10 @@
 -- `image::fold` meets its contract: the checksum so far, taken on over the parts that are left, is the one asked for.
-use Rattle.std.proofs.Common.{◌≡◌, ◌+◌, ◌-◌, ◌%◌, ◌≤◌, refl, sym, ap, ◌∙◌, arith, ℕ, length, take, drop, length-append, length-take, length-drop}
+use Rattle.std.proofs.Common.{◌≡◌, ◌+◌, ◌-◌, ◌%◌, ◌≤◌, sym, ap, ◌∙◌, arith, ℕ, length, take, drop, length-append, length-take, length-drop}
 use Rattle.fnv.specs.Fnv.{fold}
 use Rattle.update.specs.Lists.{tabulate_from}
 use Rattle.update.specs.Image.{image_in, image_part}
 use Rattle.image.specs.ImageReads.{fold_more, fold_last}
 use Rattle.image.proofs.fold.Goals as goal
-
-pub loop-at-init : goal.loop-at-init
-loop-at-init c =
-    let a = c.args in
-    let i = c.into_iter-at-iterator in
-    let is = i.ensures.into_iter_gives in
-    let of = c.of-at-items.ensures in
-    let done : i.result.done ≡ 0 = (λ j. (is j).done) ∙ of.1 in
-    let first : a.from + i.result.done ≡ a.from = omega (arith, done) in (
-      refl,
-      (λ j. (is j).offset) ∙ of.0,
-      (λ j. (is j).len) ∙ of.2 ∙ c.saturating_sub-len.ensures,
-      ap (λ (o : ℕ). fold a.hash (tabulate_from o (a.end - o) (image_in 16384 a.stored.image a.stored.mem.now))) first,
-    )
 
 pub loop-at-preserved : goal.loop-at-preserved
 loop-at-preserved c =
