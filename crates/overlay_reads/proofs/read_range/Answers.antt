@@ -5,7 +5,6 @@ use Prim.Native.Nat.{ℕ, ◌+◌, ◌-◌, ◌≤◌}
 use native.Mathlib.Omega.{arith}
 use mathlib.Core.List.{List, ◌++◌}
 use lib.ListN.{length, take, drop}
-use lib.Seq.{take_all}
 use borrow.Rule.Slice.PartMut.{put_mid}
 use borrow.Author.Rules.{rules}
 use Rattle.std.specs.Prelude.{Ok}
@@ -85,13 +84,3 @@ loop-at-preserved c =
       read = ap (λ (y : List ℕ). seen p.new.o l y (Ok true)) front ∙ all
           ∙ ap (range_read 16384 8 a.stored.image a.stored.mem.now a.o.now (b a.clean.now a.«record».now) a.offset) (sym e);
     }
-
-pub returns : goal.returns
-returns c =
-    let a = c.args in
-    let x = c.loop-at in
-    let v = x.invariant in
-    let done : ℕ = x.at-iterator.done in
-    let full : done ≡ length x.dst = omega (arith, v.within, v.end, c.in-None.ensures.steps) in
-    ap (λ (y : List ℕ). seen x.o (bufs a.frames.bytes.now a.frames.numbers.now x.clean a.«record».now) y (Ok true)) (sym (take_all done x.dst (omega (arith, full)))) ∙ v.read
-    ∙ ap (range_read 16384 8 a.stored.image a.stored.mem.now a.o.now (bufs a.frames.bytes.now a.frames.numbers.now a.clean.now a.«record».now) a.offset) (full ∙ v.dst)

@@ -1,18 +1,17 @@
 -- `writing::write_pages` meets its contract: the bytes that are left, written on, come to what all of them were to come to.
 use mathlib.Core.Path.{◌≡◌, sym, ap, ◌∙◌}
-use Prim.Native.Nat.{ℕ, ◌+◌, ◌-◌, ◌/◌, ◌%◌, ◌≤◌, ◌<◌, min}
+use Prim.Native.Nat.{ℕ, ◌+◌, ◌-◌, ◌/◌, ◌%◌, ◌<◌, min}
 use native.Mathlib.Omega.{arith}
 use mathlib.Core.Bool.{true}
 use lib.ListN.{length, take, drop}
 use borrow.Author.Rules.{rules}
 use Rattle.std.proofs.lemmas.Result.{err_from_is_err_and}
-use Rattle.memory.specs.Laws.{length_part}
 use Rattle.update.specs.Pages.{span}
 use Rattle.update.specs.Update.{copy}
 use Rattle.update.specs.Laid.{bufs, touched, touched_all}
 use Rattle.update.specs.LeaveLaws.{told}
 use Rattle.update.specs.FitLaws.{touched_fits}
-use Rattle.writing.specs.WriteLaws.{pages_all, pages_next, pages_stop, pages_aligned, pages_done}
+use Rattle.writing.specs.WriteLaws.{pages_next, pages_stop, pages_aligned, pages_done}
 use Rattle.writing.proofs.write_pages.Goals as goal
 use Rattle.writing.proofs.write_pages.Goals.{After-write_part}
 
@@ -42,37 +41,6 @@ first c =
     let o : a.offset + x.at-iterator.done ≡ c.in-Some.at = omega (arith, s.1, x.invariant.at) in
     let from : x.at-iterator.done ≡ c.in-Some.place.start = sym s.2 in
     λ j. touched 16384 8 18446744073709551615 a.stored.image a.stored.mem.now x.o (bufs x.frames x.numbers x.clean a.«record».now) true (copy 16384 (o j) (take (many c) (drop (from j) a.bytes.now))) (o j / 16384)
-
-pub loop-at-init : goal.loop-at-init
-loop-at-init c =
-    let a = c.args in
-    let i = c.into_iter-at-iterator in
-    let is = i.ensures.into_iter_gives in
-    let of = c.of-at-items.ensures in
-    let done : i.result.done ≡ 0 = (λ j. (is j).done) ∙ of.1 in
-    let len : i.result.len ≡ length a.bytes.now = (λ j. (is j).len) ∙ of.2 in
-    let l = bufs a.frames.now a.numbers.now a.clean.now a.«record».now in
-    let rest = λ (d : ℕ). touched_all 16384 8 18446744073709551615 a.stored.image a.stored.mem.now a.o.now l true (copy 16384 a.offset a.bytes.now) ((a.offset + d) / 16384) (span 16384 (a.offset + d) (length a.bytes.now - d)) in
-    record {
-      at = (λ j. (is j).offset) ∙ of.0;
-      within = omega (arith, done, len);
-      end = len;
-      aligned = λ h _. omega (arith, h, done);
-      frames = search rules;
-      numbers = search rules;
-      clean = search rules;
-      fits = c.requires.0;
-      written = ap rest done ∙ pages_all 16384 8 (omega arith) _ _ c.requires.0 _ _ _ _ _;
-    }
-
-pub write_part-requires : goal.write_part-requires
-write_part-requires c =
-    let x = c.loop-at in
-    let s = c.in-Some.ensures.steps in
-    let from : ℕ = c.in-Some.place.start in
-    let k : ℕ = c.in-Some.place.end - from in
-    let fit : from + k ≤ length c.args.bytes.now = omega (arith, s.0, s.2, s.3, x.invariant.end) in
-    (x.invariant.fits, omega (arith, length_part from k c.args.bytes.now fit, s.1, s.2, s.3))
 
 pub returns-in_err-write_part : goal.returns-in_err-write_part
 returns-in_err-write_part c =
