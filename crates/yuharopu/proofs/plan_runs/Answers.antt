@@ -54,7 +54,7 @@ returns c =
     let place : 1 ≤ length s.answer.now = filled _ c.is_empty.ensures c.if-is_empty.false in
     let fits : length s.image.numbers.now / 2 ≤ 1024 = omega (arith, few s.image.numbers.now c.count.ensures, c.if-count.false) in
     let long : room (length s.change.dirty.now) ≤ length s.work.now = omega (arith, c.work_numbers.ensures, c.if-work-work_numbers.false) in
-    ap (plans 0 w) (set_overwrite 0 c.in_ok-answer.field-0 s.answer.now filled)
+    ap (plans 0 w) (set_overwrite 0 c.in_ok-answer.field-0 s.answer.now place)
     ∙ ap (λ (x : Planned). plan_shown w x s.answer.now) (sym c.in_ok-answer.was)
     ∙ plan_shown_lem s.work.now s.image.numbers.now s.change.old_size s.change.new_size s.change.recorded.now s.change.dirty.now s.answer.now (outcome c.plan.result w)
     place fits long (c.plan.ensures ∙ planned_runs s.work.now s.image.numbers.now s.change.old_size s.change.new_size s.change.recorded.now s.change.dirty.now)
