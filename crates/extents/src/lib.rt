@@ -1,8 +1,8 @@
 // The plan of a commit: which zero runs the image has after it, or that they are too many.
 #![tactic(auto)]
 
-ghost use Rattle.std.specs.Prelude.{◌≡◌, true, ◌+◌, ◌*◌, ◌≤◌, ◌<◌, ◌^◌, [], length};
-ghost use Rattle.meta.specs.Runs.{run, runs_of, normalized};
+ghost use Rattle.std.specs.Prelude.{◌≡◌, ◌+◌, ◌*◌, ◌≤◌, ◌<◌, ◌^◌, [], length};
+ghost use Rattle.meta.specs.Runs.{runs_of};
 ghost use Rattle.runs.specs.Flat.{runs_in};
 ghost use Rattle.page_sets.specs.Lent.{IsSameList};
 ghost use Rattle.extents.specs.Plan.{kept, below, additions, add_one, add_each, remove_each, plan as plan_of};

@@ -1,10 +1,9 @@
 -- The image's bytes read page by page, and its runs number by number.
 use Rattle.std.specs.Prelude.{◌≡◌, ℕ, zero, suc, ◌+◌, ◌-◌, ◌*◌, ◌/◌, ◌%◌, ◌≤◌, ◌<◌, min, List, [], ◌∷◌, ◌++◌, length, take, drop, get_or, set}
-use Rattle.std.proofs.Common.{sym, ap, ◌∙◌, zero-add, suc-add, add-zero, arith, append-nil, length-append, length-drop, drop_of_length-le, ext_get_or, take_all, le-ltb}
-use Rattle.std.proofs.Math.Seq.{take-append_seam}
+use Rattle.std.proofs.Common.{sym, ap, ◌∙◌, zero-add, suc-add, add-zero, arith, ext_get_or, take_all, le-ltb}
 use borrow.Rule.Slice.PartMut.{put_mid}
 use Rattle.memory.specs.Bytes.{zeros, overwrite, filled}
-use Rattle.memory.specs.Laws.{length-zeros, zeros_at, length-overwrite, overwrite_join, overwrite_all, overwrite_mid, overwrite_more, take-overwrite, part_back, part_filled}
+use Rattle.memory.specs.Laws.{length-zeros, zeros_at, length-overwrite, overwrite_join, overwrite_all, overwrite_more, take-overwrite, part_back}
 use Rattle.fnv.specs.Fnv.{fold, fold_join, fold_nil}
 use Rattle.fnv.specs.Zeros.{fold_zeros, fold_zeros-is}
 use Rattle.meta.specs.Runs.{numbers_of}

@@ -2,10 +2,10 @@
 // Nothing is taken from the heap, and the list has room for more runs.
 #![tactic(auto)]
 
-ghost use Rattle.std.specs.Prelude.{◌≡◌, true, ◌+◌, ◌*◌, ◌≤◌, ◌<◌, min, max, ◌∷◌, length, take};
+ghost use Rattle.std.specs.Prelude.{◌≡◌, true, ◌+◌, ◌*◌, ◌≤◌, ◌<◌, min, max, ◌∷◌, length};
 ghost use Rattle.meta.specs.Runs.{run, normalized};
 ghost use Rattle.runs.specs.Sets.{merge, maximal, without, piece};
-ghost use Rattle.runs.specs.Flat.{runs_in, out, held, padded, laid, at, upto, write, place};
+ghost use Rattle.runs.specs.Flat.{runs_in, out, held, laid, at, upto, write, place};
 ghost use Rattle.page_sets.specs.Lent.{IsSameList};
 
 use meta::ZeroExtent;

@@ -11,10 +11,10 @@ use Rattle.config.specs.Pages.{count, count_le}
 use Rattle.memory.specs.Laws.{split}
 use Rattle.meta.specs.declared.superblock.Superblock.{Superblock}
 use Rattle.meta.specs.declared.ZeroExtent.{ZeroExtent}
-use Rattle.meta.specs.Runs.{run, normalized}
+use Rattle.meta.specs.Runs.{normalized}
 use Rattle.runs.specs.Sets.{within, covers}
 use Rattle.runs.specs.Members.{From}
-use Rattle.runs.specs.SetLaws.{within_has, has_within, normalized_from}
+use Rattle.runs.specs.SetLaws.{has_within, normalized_from}
 use Rattle.extents.specs.Plan.{kept, below, additions, plan}
 use Rattle.extents.specs.PlanLaws.{among, additions_rise, additions_fall, additions_same, plan_normalized, plan_most, plan_covers}
 use Rattle.update.specs.ListLaws.{clash}

@@ -1,12 +1,11 @@
 -- 01's superblock is a lawful codec: by meta's laws.
-use Rattle.std.specs.Prelude.{◌≡◌, refl, Bool, true, false, get_or, drop, leb, eqb, Ok, Err}
+use Rattle.std.specs.Prelude.{◌≡◌, refl, Bool, true, get_or, drop, leb, eqb, Ok, Err}
 use Rattle.std.proofs.Math.Path.{sym}
 use Rattle.std.proofs.Common.{ap, ◌∙◌, subst, leb-true, arith, length-take, drop-drop}
 use Prim.Native.Nat.{ℕ, zero, suc, ◌+◌, ◌-◌, ◌*◌, ◌/◌, ◌≤◌, ◌<◌, min}
 use mathlib.Core.List.{List, [], ◌∷◌}
 use Rattle.std.proofs.Math.ListN.{length}
 use Rattle.std.proofs.Math.Seq.{get_or-drop}
-use Rattle.config.specs.declared.refusal.Refusal.{Refusal}
 use Rattle.config.specs.declared.refusal.Refusal.TheVariants.{ForeignStableMemoryImage, UnsupportedLayoutVersion, MetaChecksumMismatch}
 use Rattle.memory.specs.Laws.{length-overwrite}
 use Rattle.meta.specs.declared.superblock.Superblock.{Superblock}

@@ -1,11 +1,10 @@
 -- A small codec: the calls can be run by computation with it, at pages of 2 bytes and stable pages of 24. A field of the superblock, or a number
 -- of a run, takes one element of memory; at most 3 runs; numbers up to 1,000.
-use Rattle.std.specs.Prelude.{◌≡◌, refl, Bool, true, false, List, [], ◌∷◌, ◌++◌, leb, eqb, take, drop, Ok, Err}
+use Rattle.std.specs.Prelude.{◌≡◌, refl, true, List, [], ◌∷◌, ◌++◌, leb, eqb, take, drop, Ok, Err}
 use Rattle.std.proofs.Common.{sym, ap, ◌∙◌, append_assoc, length-append, length-drop, get_or-drop, leb-true}
 use Prim.Native.Nat.{ℕ, zero, suc, ◌+◌, ◌*◌, ◌%◌, ◌≤◌, min}
 use native.Mathlib.Omega.{arith}
 use Rattle.std.proofs.Math.ListN.{length}
-use Rattle.config.specs.declared.refusal.Refusal.{Refusal}
 use Rattle.config.specs.declared.refusal.Refusal.TheVariants.{MetaChecksumMismatch}
 use Rattle.memory.specs.Laws.{overwrite_mid}
 use Rattle.meta.specs.declared.superblock.Superblock.{Superblock}

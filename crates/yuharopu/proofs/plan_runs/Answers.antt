@@ -1,5 +1,5 @@
 -- `plan_runs` meets its contract: the plan of `extents`, shown.
-use Rattle.std.proofs.Common.{ℕ, List, Bool, false, ◌≡◌, ◌<◌, ◌≤◌, ◌+◌, ◌*◌, ◌/◌, length, eqb, Err, rules, sym, ap, ◌∙◌, arith}
+use Rattle.std.proofs.Common.{ℕ, List, Bool, false, ◌≡◌, ◌<◌, ◌≤◌, ◌/◌, length, eqb, Err, rules, sym, ap, ◌∙◌, arith}
 use borrow.Author.Tests.{lt-ltb, le-ltb, eqb-true, eqb-false}
 use Rattle.memory.specs.Laws.{set_overwrite}
 use Rattle.meta.specs.Runs.{runs_of}
