@@ -24,7 +24,7 @@ pub fn settle(c: &mut CleanCache)
     memory::fill(&mut c.pages[c.count..], 0);
 }
 
-// The frame that `page` is in, if it is cached.
+// The place of the frame that `page` is in, if it is cached.
 pub fn find_clean(c: &CleanCache, page: u64) -> Option<usize>
     requires { c.now ≡ settled 16384 8 c.now }
     ensures { result ≡ place_found (cached 16384 8 c.now) page }
@@ -64,7 +64,7 @@ fn make_room(c: &mut CleanCache, clean: &mut [u8])
     c.count = CleanCache::CAPACITY - 1;
 }
 
-// The image's page becomes the youngest of the cache: its frame.
+// The image's page becomes the youngest of the cache; answered is the place of its frame.
 // A page is a bare number, as page numbers that are lent may be any: only the page of an offset, which `config::page_no` gives, has an offset of its own.
 pub fn insert(c: &mut CleanCache, clean: &mut [u8], stored: Stored<'_>, page: u64) -> usize
     requires { CacheFits 16384 8 c.old clean.old × (page * 16384 ≤ 18446744073709551615) }

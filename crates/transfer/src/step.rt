@@ -1,4 +1,4 @@
-// How a call begins and ends that is lent memory alone.
+// How a call begins and ends that is lent memory and no buffers of an update.
 ghost use Rattle.std.specs.Prelude.{◌≡◌};
 ghost use Rattle.image.specs.Reading.{resealed, restored};
 ghost use Rattle.store.specs.Store.{onward};

@@ -29,6 +29,7 @@ fn grow_to(
     if size <= before {
         return Ok(());
     }
+    // No `inspect_err`, as `overlay::write_at` says.
     let grown = growth::grow(o, stored, frames, numbers, clean, record, size);
     if grown.is_err() {
         o.size = before;
@@ -77,7 +78,7 @@ fn chop(
     Ok(())
 }
 
-// "and ends by making a partial last page dirty and zeroing its tail"
+// "and ends by making a partial last page dirty and zeroing its tail": what it shares with two functions of `growth` is `touch::zero_part`, as that crate says.
 fn zero_tail(
     o: &mut Overlay,
     stored: Stored<'_>,

@@ -1,5 +1,5 @@
 // The C functions: a host "calls the library through C functions on numbers and byte slices". Each takes any argument; `yuharopu_c` exports
-// them. A call that changes memory and is lent nothing else goes by `transfer_calls::call_on_memory`, one that is lent everything by
+// them. A call that changes memory and is lent no buffers of an update goes by `transfer_calls::call_on_memory`, one that is lent everything by
 // `update_calls::call_on_all`. The others take up the state by themselves: file_size, read_at, rollback, begin_update, dirty_page, export_chunk, checksum.
 // No two of them are lent the same slices in the same way, and of a slice that a closure captured to fill it a proof would know nothing.
 // Numbers stand for marks and kinds, and counts beside slices, as C has them; a refusal becomes its number in `encoding`.

@@ -1,4 +1,4 @@
-// The store's calls that are lent memory, and at most bytes beside it.
+// The store's calls that are lent memory and no buffers of an update.
 ghost use Rattle.store.specs.Calls.{Call, import_begin, import_chunk, import_finish, import_cancel, export, checksum, refresh, refresh_step};
 ghost use Rattle.std.specs.Prelude.{◌≡◌, ℕ, []};
 ghost use Rattle.encoding.specs.Called.{open_called, open_at};
