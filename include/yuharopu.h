@@ -72,7 +72,8 @@ uint64_t yuharopu_plan(uint64_t *work, size_t work_len, const uint64_t *extents,
  * open (0 or 1); and the update's 19: its base size, size, dirty pages, record entries, clean pages, the numbers of
  * eight clean pages, whether it has a budget (0 or 1), the budget's pages and bytes, whether it was passed (0, 1 by
  * pages, 2 by bytes), the peaks of pages and bytes. Any bytes are taken; where a number is 0 or 1, any other counts
- * as 1, and of the version and the page size the low 32 bits count. No byte outside the lent slices is touched, but a
+ * as 1, and of the version and the page size the low 32 bits count; in that form they are written back where `state` is lent to
+ * be changed and the answer is not 35, also where nothing else changes. No byte outside the lent slices is touched, but a
  * forged size of the image is believed: its checksum and a refresh go over so many bytes, zeros where memory has none,
  * up to 2^64 - 1 of them, and an export fills `dst` up to that size.
  *
@@ -85,13 +86,18 @@ uint64_t yuharopu_plan(uint64_t *work, size_t work_len, const uint64_t *extents,
  *   clean    131,072 bytes: eight pages that reads have taken from the image;
  *   record   two numbers an entry, start then end: a run of pages for each change of the page count, in order;
  *   work     2 x (1,025 + 2 n) numbers. A call keeps nothing there: it is zeros after every call that is lent it and
- *            does not answer 35.
+ *            answers neither 35 nor 10.
  * A call may be lent the front of longer buffers. It needs the frames in use (number 25 of the state, counted from 0) and
  * as many as it can make dirty: a write the pages that it has a byte in, and one more; a truncation two; the others none.
  * With more its answer is the same, but the end of an update or of a direct call fills all that is lent with zeros.
  * Between the calls of one update the first four are the caller's to keep. Places that it does not use may hold
  * anything and stay; those that it freed are zeros; all of these four become zeros, whole, when an update ends or a
- * direct call answers anything but 35.
+ * direct call answers anything but 35 and 10.
+ *
+ * While an import is open there are no direct calls: with no update open, a write that has a byte and every truncation,
+ * also to the size it has, answer 10, tested right after 35. They change nothing: memory, state, frames, numbers, clean,
+ * record and work stay as they were, and only the values in `answer` become 0. A write without a byte is accepted as
+ * ever. So of the calls of an import only an accepted yuharopu_finish_import changes the file.
  *
  * A call answers 0, or the number of the refusal that it met first (docs/REFUSALS.md). Of the numbers below, 24 comes
  * with the values expected, actual; 32 with the stable pages that there are and that are required; 2 with the number.
@@ -137,14 +143,16 @@ uint64_t yuharopu_read_at(uint8_t *state, size_t state_len, const uint8_t *mem, 
  * In an update memory stays. 20, 34, 30, 33: the size stays; record, pages made dirty and bytes copied stay too (by 34,
  * and by 20 for the write's own end, nothing has changed).
  * With no update open the write is direct: it is committed at once, without budget, and leaves the transaction number
- * and all that concerns the checksum. 20, 34, 33, 31, 32: memory stays. */
+ * and all that concerns the checksum. 10: an import is open, and nothing changes; not asked of a write without a byte.
+ * 20, 34, 33, 31, 32: memory stays. */
 uint64_t yuharopu_write_at(uint8_t *state, size_t state_len, uint8_t *mem, size_t mem_len, uint8_t *frames,
                            size_t frames_len, uint64_t *numbers, size_t numbers_len, uint8_t *clean, size_t clean_len,
                            uint64_t *record, size_t record_len, uint64_t *work, size_t work_len, uint64_t offset,
                            const uint8_t *bytes, size_t bytes_len, uint64_t *answer, size_t answer_len);
 
-/* The size becomes `size`, with zeros where it grows. In an update or direct, with the refusals of a write; refused at
- * its last step, the tail of the last page (30 or 33), it keeps the new size in the update. */
+/* The size becomes `size`, with zeros where it grows. In an update or direct, with the refusals of a write; while an
+ * import is open a direct one answers 10 for every size. Refused at its last step, the tail of the last page (30 or
+ * 33), it keeps the new size in the update. */
 uint64_t yuharopu_truncate(uint8_t *state, size_t state_len, uint8_t *mem, size_t mem_len, uint8_t *frames,
                            size_t frames_len, uint64_t *numbers, size_t numbers_len, uint8_t *clean, size_t clean_len,
                            uint64_t *record, size_t record_len, uint64_t *work, size_t work_len, uint64_t size,
@@ -163,7 +171,8 @@ uint64_t yuharopu_rollback_update(uint8_t *state, size_t state_len, uint8_t *fra
                                   uint64_t *record, size_t record_len, uint64_t *answer, size_t answer_len);
 
 /* Begins an import of `total` bytes whose FNV-1a hash is to be `expected`; they go behind the stable pages in use. It is
- * open until it is finished or cancelled, or the image is opened again. 12, 10, 20: nothing changes. */
+ * open until it is finished or cancelled, or the image is opened again; till then the file can be read but not changed.
+ * 12, 10, 20: nothing changes. */
 uint64_t yuharopu_begin_import(uint8_t *state, size_t state_len, uint8_t *mem, size_t mem_len, uint64_t total,
                                uint64_t expected, uint64_t *answer, size_t answer_len);
 

@@ -21,8 +21,9 @@ DEPS = "config memory words fnv meta meta_load runs page_sets image_runs extents
 BATCH = 25
 KEPT_SEED = 1
 # so many of each set that every ending is among them
-KEPT_CALLS = 2000
-KEPT_SCENES = ("unmerged_record", "far_dirty", "left_in_old_page", "left_in_new_page", "cached_then_written", "moved_up")
+KEPT_CALLS = 2400
+KEPT_SCENES = ("unmerged_record", "far_dirty", "left_in_old_page", "left_in_new_page", "cached_then_written", "both_open", "direct_in_import",
+               "moved_up")
 
 
 def copy_repository(to):
@@ -38,7 +39,7 @@ def write_crate(folder, crate, groups, about):
     shutil.rmtree(folder / "crates" / crate, ignore_errors=True)
     specs.mkdir(parents=True)
     (specs.parent / "src").mkdir()
-    (specs.parent / "src" / "lib.rt").write_text("// Calls of the store, compared with a model. They are theorems, in specs/; there is no code here.\n#![tactic(auto)]\n\n")
+    (specs.parent / "src" / "lib.rt").write_text("// Calls of the store, compared with a model. They are theorems, in specs/; there is no code here.\n#![tactic(auto)]\n")
     (specs / "Shapes.antt").write_text(theorems.SHAPES)
     modules = ["Shapes"]
     for first in range(0, len(groups), BATCH):
@@ -63,6 +64,8 @@ def ending(entry):
         kind += " in update" if entry["state"].updating else " direct"
     if kind == "open" and answer[0] == "Done" and entry["count"] > 0 and entry["codec"].decode(entry["mem"])["flags"] & IMPORTING:
         return kind, "import closed"
+    if kind == "write direct" and answer[0] == "Done" and entry["state"].block["flags"] & IMPORTING:
+        return kind, "empty in import"
     return kind, str(answer[1]) if answer[0] == "Refused" else "accepted"
 
 

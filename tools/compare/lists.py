@@ -46,14 +46,18 @@ class Lists:
     def bytes(self, n):
         return [self.byte() for _ in range(n)]
 
-    def fill(self, values, n):
-        """As far as n reaches, then zeros or garbage."""
+    def fill(self, values, n, littered=False):
+        """As far as n reaches, then zeros or garbage; littered: garbage."""
         extra = max(0, n - len(values))
-        return values[:n] + ([0] * extra if self.chance(40) else [self.rnd.randrange(1, 9) for _ in range(extra)])
+        return values[:n] + ([0] * extra if not littered and self.chance(40) else [self.rnd.randrange(1, 9) for _ in range(extra)])
 
     def weighted(self, table):
         kinds, weights = zip(*table)
         return self.rnd.choices(kinds, weights)[0]
+
+    def importing(self):
+        """An import is open; in a state that has both, an update goes before it."""
+        return not self.state.updating and self.state.block["flags"] & IMPORTING > 0
 
     def offset(self):
         p, s = self.par, self.state
@@ -217,12 +221,14 @@ class Lists:
     # slices lent
 
     def lend(self, steady=False, which=None):
-        """The live parts as they were left; the rest is zeros, garbage or as left; now and then a slice is too short."""
+        """The live parts as they were left; the rest is zeros, garbage or as left, in an import garbage, so that a slice left and one that
+        became zeros differ; now and then a slice is too short, or in an import no frame and no entry is lent."""
         p, v, old, r = self.par, self.state.overlay, self.lent, self.rnd
         live = v if self.state.updating else self.store.no_overlay()
-        vary = not steady and self.chance(70 if self.theme == "past" else 30)
-        frames = max(live.dirty, self.frames + (r.choice((-1, 0, 1, 3)) if vary else 0))
-        entries = max(live.recorded, self.room + (r.choice((-1, 0, 1)) if vary else 0))
+        vary, littered = not steady and self.chance(70 if self.theme == "past" else 30), self.importing()
+        bare = littered and not steady and self.chance(20)
+        frames = max(live.dirty, 0 if bare else self.frames + (r.choice((-1, 0, 1, 3)) if vary else 0))
+        entries = max(live.recorded, 0 if bare else self.room + (r.choice((-1, 0, 1)) if vary else 0))
         lengths = dict(
             mem=max(self.state.count, self.ceiling + (r.choice((-1, 0, 1)) if vary else 0)) * p.S + (r.choice((0, 1, 7)) if vary else 0),
             frames=frames * p.P + (r.randrange(p.P) if vary else 0),
@@ -233,11 +239,12 @@ class Lists:
         parts = dict(mem=self.state.count * p.S, frames=live.dirty * p.P, numbers=live.dirty, clean=live.cache_count * p.P, recs=2 * live.recorded)
         if not steady and self.chance(7):
             self.shorten(lengths, parts, which or r.choice(list(lengths)))
-        slices = {k: self.fill(getattr(old, k)[:n if self.chance(60) else len(getattr(old, k))], lengths[k]) for k, n in parts.items()}
+        left = {k: n if littered or self.chance(60) else len(getattr(old, k)) for k, n in parts.items()}
+        slices = {k: self.fill(getattr(old, k)[:n], lengths[k], littered) for k, n in left.items()}
         held = min(lengths["frames"] // p.P, lengths["numbers"])
         need = 2 * (p.L + 1 + 2 * held)
-        work = need - r.choice((1, 2)) if not steady and self.chance(2) else need + (r.choice((0, 1, 4)) if vary else 0)
-        return Lent(work=self.fill([], max(0, work)), **slices)
+        work = need - r.choice((1, 2)) if not steady and self.chance(8 if littered else 2) else need + (r.choice((0, 1, 4)) if vary else 0)
+        return Lent(work=self.fill([], max(0, work), littered), **slices)
 
     def shorten(self, lengths, parts, which):
         floor = self.par.C * self.par.P if which == "clean" else parts[which]
@@ -252,18 +259,20 @@ class Lists:
             return self.rnd.choice(("truncate", "truncate", "read", "commit"))
         if s.updating:
             return self.weighted(always + THEMES[self.theme] + [("import_begin", 1), ("import_chunk", 1), ("refresh_step", 2)])
-        if s.block["flags"] & IMPORTING:
+        if self.importing():
             if s.block["import_written_until"] == s.block["import_total_size"] and self.chance(50):
                 return "import_finish"
-            return self.weighted(always + [("import_chunk", 40), ("import_finish", 14), ("import_cancel", 4), ("import_begin", 2), ("begin", 3),
-                                           ("refresh_step", 2), ("write", 14), ("truncate", 8), ("read", 5), ("commit", 1), ("rollback", 1)])
+            return self.weighted(always + [("import_chunk", 50), ("import_finish", 18), ("import_cancel", 4), ("import_begin", 2), ("begin", 3),
+                                           ("refresh_step", 2), ("write", 36), ("truncate", 20), ("read", 5), ("commit", 2), ("rollback", 2)])
         if s.block["flags"] & REFRESHING and self.chance(50):
             return self.rnd.choice(("refresh_step", "refresh_step", "write", "truncate"))
         return self.weighted(always + [("begin", 34), ("write", 18), ("truncate", 14), ("read", 10), ("commit", 2), ("rollback", 2),
-                                       ("import_begin", 8), ("import_chunk", 1), ("refresh_step", 12)])
+                                       ("import_begin", 10), ("import_chunk", 1), ("refresh_step", 12)])
 
     def arguments(self, kind):
         r, p = self.rnd, self.par
+        if kind in ("write", "truncate") and self.importing():
+            return self.in_import(kind)
         if kind == "begin":
             pages = r.randrange(5)
             size = r.choice((pages * p.P, pages * p.P, pages * p.P - 1 if pages else 0, 3 * p.P, p.M))
@@ -281,6 +290,11 @@ class Lists:
         if kind == "refresh_step":
             return (r.choice((0, 1, 2, p.P, 2 * p.P, 3 * p.P + 1, 50, p.M)),)
         return ()
+
+    def in_import(self, kind):
+        """Of a direct call that an import refuses, and of the empty write that it does not."""
+        at = self.rnd.choice((self.offset(), self.offset(), self.state.block["db_size"], 0, self.par.M))
+        return (at, self.bytes(self.rnd.choice((0, 0, 1, 2, self.length(), self.length())))) if kind == "write" else (at,)
 
     def written(self):
         if self.par.M < 40 and self.chance(15):
@@ -311,7 +325,7 @@ class Lists:
     def one(self):
         kind = self.next_kind()
         lent = self.lend(which="mem" if kind in MEMORY_ONLY else None)
-        if self.chance(1):
+        if self.chance(5 if self.importing() and kind in ("write", "truncate") else 1):
             self.other_state()
         self.make((kind, *self.arguments(kind)), lent)
         if self.state.updating and self.chance(8):
@@ -329,10 +343,10 @@ class Lists:
         self.state = copy.deepcopy(self.state)
         if self.state.updating:
             self.state.block["flags"] ^= IMPORTING
-        elif self.state.block["flags"] & IMPORTING and self.par.M < 100:
-            self.state.block["import_total_size"] = self.par.M
         else:
             self.state.overlay.size, self.state.overlay.dirty, self.state.overlay.recorded = self.bytes(3)
+            if self.importing() and self.par.M < 100:
+                self.state.block["import_total_size"] = self.par.M
 
     def open_again(self):
         """Opens what the calls left, in the middle of an import too; tells whether it is accepted, which fails only after other_state."""
@@ -360,7 +374,7 @@ class Lists:
 
     def go_on(self, length):
         for _ in range(length):
-            percent = 8 if self.state.block["flags"] & IMPORTING else 1
+            percent = 8 if self.importing() else 1
             if not self.state.updating and self.chance(percent) and not self.open_again():
                 return
             self.one()

@@ -398,6 +398,9 @@ class Store:
         lends = args[1] if kind in ("read", "export") else []
         if self.short(state, lent, kind):
             return Out(state, lent, ("Refused", 35), list(lends))
+        if self.barred(state, call):
+            # 02, W-203: "refuses with 10, right after 35 and, like 35, with nothing changed, lent frames and lists included"
+            return Out(state, lent, ("Refused", 10))
         s, l = copy.deepcopy(state), copy.deepcopy(lent)
         try:
             if kind in MEMORY_ONLY and s.updating:
@@ -420,6 +423,11 @@ class Store:
             if s.updating and (frames < v.dirty or len(l.recs) // 2 < v.recorded):
                 return True
         return "w" in lends and len(l.work) // 2 < p.L + 1 + 2 * frames
+
+    def barred(self, s, call):
+        """A direct write or truncation in an import; "an empty direct write is still accepted"."""
+        changes = call[0] == "truncate" or (call[0] == "write" and len(call[2]) > 0)
+        return changes and not s.updating and s.block["flags"] & IMPORTING
 
     def no_overlay(self):
         return Overlay(0, 0, 0, 0, [0] * self.par.C, 0, Budget())

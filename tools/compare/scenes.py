@@ -53,8 +53,10 @@ def at_the_end_of_numbers(p):
 
 
 def both_open(p):
-    calls = [("begin", False, 0, 0), (), ("begin", True, 1, 1), ("import_begin", 1, 1), ("refresh_step", 0), ("import_chunk", 3, []), ("import_finish",),
-             ("export", 0, [4] * 3), ("commit",), ("refresh_step", 0), ("import_chunk", 1, byte_list(min(p.M, 95))), ("import_begin", p.M, 0)]
+    """A write is then one in the update."""
+    calls = [("begin", False, 0, 0), (), ("write", 1, [9]), ("truncate", p.P), ("begin", True, 1, 1), ("import_begin", 1, 1), ("refresh_step", 0),
+             ("import_chunk", 3, []), ("import_finish",), ("export", 0, [4] * 3), ("commit",), ("refresh_step", 0),
+             ("import_chunk", 1, byte_list(min(p.M, 95))), ("import_begin", p.M, 0)]
     return dict(size=p.P, runs=[], frames=2, calls=calls)
 
 
@@ -75,6 +77,14 @@ def import_over_refresh(p):
     """The import is finished; no opening leads here."""
     fields, made = over_refresh(p)
     return dict(made, state=fields)
+
+
+def direct_in_import(p):
+    """Refused while the import is open, but for the empty write; accepted once it is closed, by a cancel and by 24."""
+    size = 3 if 2 * p.S + 5 <= p.M else 0
+    calls = [("import_begin", 5, 0), ("write", 1, [9]), ("truncate", size), ("write", p.M, [7, 8]), ("write", p.M, []), ("import_chunk", 0, [5, 6]),
+             ("write", 1, [9]), ("import_cancel",), ("write", 1, [9]), ("import_begin", 0, 0), ("truncate", 0), ("import_finish",), ("truncate", 0)]
+    return dict(size=size, runs=[], frames=2, calls=calls)
 
 
 def moved_up(p):
@@ -103,4 +113,4 @@ def cut_first(p):
 
 
 SCENES = [unmerged_record, far_dirty, left_in_old_page, left_in_new_page, all_pages, cached_then_written, at_the_end_of_numbers, both_open,
-          import_closed_over_refresh, import_over_refresh, moved_up, past_all_numbers, growth_first, cut_first]
+          import_closed_over_refresh, import_over_refresh, direct_in_import, moved_up, past_all_numbers, growth_first, cut_first]

@@ -11,7 +11,7 @@ use config::Refusal;
 use store::State;
 use update::{Overlay, Stored};
 
-// 35, then what `apply` makes of the overlay; a direct change then commits.
+// 35, then 10 of what `changes` the file and is direct while an import is open, then what `apply` makes of the overlay; a direct change then commits.
 fn change<F>(
     s: &mut State,
     mem: &mut [u8],
@@ -20,6 +20,7 @@ fn change<F>(
     clean: &mut [u8],
     record: &mut [u64],
     work: &mut [u64],
+    changes: bool,
     apply: F,
 ) -> Result<(), Refusal>
 where
@@ -32,13 +33,16 @@ where
         &mut [u64],
     ) -> Result<(), Refusal>,
     requires callable { F.IsAlwaysCallable apply }
-    requires change { (c : Call) × IsChange F.FnOnce apply s.old (lent mem.old (bufs frames.old numbers.old clean.old «record».old) work.old) c }
-    ensures { (c : Call) → IsChange F.FnOnce apply s.old (lent mem.old (bufs frames.old numbers.old clean.old «record».old) work.old) c
+    requires change { (c : Call) × IsChange F.FnOnce apply s.old (lent mem.old (bufs frames.old numbers.old clean.old «record».old) work.old) changes c }
+    ensures { (c : Call) → IsChange F.FnOnce apply s.old (lent mem.old (bufs frames.old numbers.old clean.old «record».old) work.old) changes c
         → out s.new (lent mem.new (bufs frames.new numbers.new clean.new «record».new) work.new) (done result) []
         ≡ calls s.old (lent mem.old (bufs frames.old numbers.old clean.old «record».old) work.old) c }
 {
     if lending::any_is_short(s, mem, frames, numbers, clean, record, work) {
         return Err(Refusal::BufferTooShort);
+    }
+    if settling::import_bars(s, changes) {
+        return Err(Refusal::ImportAlreadyStarted);
     }
     let mut o = settling::overlay_of(s);
     let stored = Stored {
@@ -49,7 +53,7 @@ where
     settling::settle(s, mem, frames, numbers, clean, record, work, &o, verdict)
 }
 
-// 35, then the tests of a write in the overlay; a direct one then commits.
+// 35, then 10 of a direct one that is not empty while an import is open, then the tests of a write in the overlay; a direct one then commits.
 pub fn write_at(
     s: &mut State,
     mem: &mut [u8],
@@ -72,13 +76,14 @@ pub fn write_at(
         clean,
         record,
         work,
+        !bytes.is_empty(),
         |o, stored, frames, numbers, clean, record| {
             overlay::write_at(o, stored, frames, numbers, clean, record, offset, bytes)
         },
     )
 }
 
-// 35, then the tests of a truncation in the overlay; a direct one then commits.
+// 35, then 10 of a direct one while an import is open, then the tests of a truncation in the overlay; a direct one then commits.
 pub fn truncate(
     s: &mut State,
     mem: &mut [u8],
@@ -100,6 +105,7 @@ pub fn truncate(
         clean,
         record,
         work,
+        true,
         |o, stored, frames, numbers, clean, record| {
             overlay::truncate(o, stored, frames, numbers, clean, record, size)
         },

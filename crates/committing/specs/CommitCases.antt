@@ -1,9 +1,9 @@
 -- A commit in the store's definition and in the code's, which clears the buffers in the end; and the store's definition at a commit and at a rollback: one
 -- law for each way out.
-use Rattle.std.specs.Prelude.{◌≡◌, ℕ, ◌+◌, ◌*◌, ◌≤◌, Bool, true, false, ltb, take, Ok, Err}
+use Rattle.std.specs.Prelude.{◌≡◌, ℕ, ◌+◌, ◌*◌, ◌≤◌, Bool, true, false, ltb, take, Ok, Err, cond}
 use Rattle.std.proofs.Math.Path.{refl, sym, ap}
 use Rattle.std.proofs.Common.{◌∙◌, arith}
-use Rattle.std.proofs.Math.Bool.{cond, or-false}
+use Rattle.std.proofs.Math.Bool.{or-false}
 use mathlib.Core.List.{List, []}
 use Rattle.std.proofs.Math.ListN.{length}
 use borrow.Author.Tests.{ltb-false}
@@ -27,9 +27,10 @@ use Rattle.store.specs.declared.State.{State}
 use Rattle.store.specs.Answers.{Done, Refused}
 use Rattle.store.specs.Codec.{Codec, real_codec}
 use Rattle.store.specs.Cases.{no_or}
-use Rattle.store.specs.Calls.{Call, commit, rollback, uses, lent_bytes, Lent, Out, out, mode_if, mode_of, buffers_short, short}
+use Rattle.store.proofs.WaysOut.{store_short, store_done}
+use Rattle.store.specs.Calls.{commit, rollback, Lent, Out, out, mode_if, mode_of, buffers_short, short}
 use Rattle.store.specs.Plan.{required}
-use Rattle.store.specs.Store.{ended, unchanged, planned_runs, publish, settle, commit_over, do_commit, do_rollback, act, swept, store}
+use Rattle.store.specs.Store.{ended, unchanged, planned_runs, publish, settle, commit_over, do_commit, do_rollback, swept}
 use Rattle.commit.specs.Committed.{Outcome, kept_as, publish_to, settle_to, commit_to}
 use Rattle.commit.specs.Held.{Held}
 use Rattle.transfer.specs.OnMemory.{lent}
@@ -88,31 +89,17 @@ module _ (u : Bool) (s : State) (m : List ℕ) (b : Buffers) (work : List ℕ) (
       ∙ ap (λ (y : Outcome). swept 16384 65536 8 1024 18446744073709551615 real_codec true (ended_by 16384 65536 8 1024 18446744073709551615 real_codec b work y)) e
       ∙ sym (ap (swept 16384 65536 8 1024 18446744073709551615 real_codec true) over_is)
 
--- ## 35 first
-
-module _ (s : State) (l : Lent) (c : Call) where
-  refused_35 : short 16384 65536 8 1024 s l c ≡ true → calls s l c ≡ out s l (Refused BufferTooShort) (lent_bytes c)
-  unfolding store
-  refused_35 h = ap (λ (t : Bool). cond t (out s l (Refused BufferTooShort) (lent_bytes c))
-      (swept 16384 65536 8 1024 18446744073709551615 real_codec (uses c).work? (act 16384 65536 8 1024 18446744073709551615 real_codec s l c))) h
-
-  acts : short 16384 65536 8 1024 s l c ≡ false
-      → calls s l c ≡ swept 16384 65536 8 1024 18446744073709551615 real_codec (uses c).work? (act 16384 65536 8 1024 18446744073709551615 real_codec s l c)
-  unfolding store
-  acts h = ap (λ (t : Bool). cond t (out s l (Refused BufferTooShort) (lent_bytes c))
-      (swept 16384 65536 8 1024 18446744073709551615 real_codec (uses c).work? (act 16384 65536 8 1024 18446744073709551615 real_codec s l c))) h
-
 -- ## A commit
 
 -- t: what the test of all that is lent found
 module _ (s : State) (l : Lent) (t : Bool) (e : t ≡ short 16384 65536 8 1024 s l commit) where
   pub commit_short : t ≡ true → calls s l commit ≡ out s l (Refused BufferTooShort) []
-  commit_short h = refused_35 s l commit (sym e ∙ h)
+  commit_short h = store_short 16384 65536 8 1024 18446744073709551615 real_codec s l commit (sym e ∙ h)
 
   module _ (h : t ≡ false) where
     commits : (u : Bool) → s.updating ≡ u → calls s l commit
         ≡ swept 16384 65536 8 1024 18446744073709551615 real_codec true (do_commit 16384 65536 8 1024 18446744073709551615 real_codec s l (mode_if u s.overlay))
-    commits u g = acts s l commit (sym e ∙ h)
+    commits u g = store_done 16384 65536 8 1024 18446744073709551615 real_codec s l commit (sym e ∙ h) refl
         ∙ ap (λ (v : Bool). swept 16384 65536 8 1024 18446744073709551615 real_codec true (do_commit 16384 65536 8 1024 18446744073709551615 real_codec s l (mode_if v s.overlay))) g
 
     pub commit_idle : s.updating ≡ false → (w : List ℕ) → w ≡ zeros (length l.work) → out s (lent l.mem l.bufs w) Done [] ≡ calls s l commit
@@ -143,11 +130,11 @@ module _ (s : State) (b : Buffers) (m w : List ℕ) (t : Bool) (e : t ≡ buffer
   short_back = or-false (buffers_short 16384 65536 8 1024 (mode_of s) b) ∙ sym e
 
   pub back_short : t ≡ true → calls s (lent m b w) rollback ≡ out s (lent m b w) (Refused BufferTooShort) []
-  back_short h = refused_35 s (lent m b w) rollback (short_back ∙ h)
+  back_short h = store_short 16384 65536 8 1024 18446744073709551615 real_codec s (lent m b w) rollback (short_back ∙ h)
 
   module _ (h : t ≡ false) where
     rolls : (u : Bool) → s.updating ≡ u → calls s (lent m b w) rollback ≡ do_rollback 16384 65536 8 1024 18446744073709551615 real_codec s (lent m b w) (mode_if u s.overlay)
-    rolls u g = acts s (lent m b w) rollback (short_back ∙ h) ∙ ap (λ (v : Bool). do_rollback 16384 65536 8 1024 18446744073709551615 real_codec s (lent m b w) (mode_if v s.overlay)) g
+    rolls u g = store_done 16384 65536 8 1024 18446744073709551615 real_codec s (lent m b w) rollback (short_back ∙ h) refl ∙ ap (λ (v : Bool). do_rollback 16384 65536 8 1024 18446744073709551615 real_codec s (lent m b w) (mode_if v s.overlay)) g
 
     pub back_idle : s.updating ≡ false → out s (lent m b w) Done [] ≡ calls s (lent m b w) rollback
     back_idle u = sym (rolls false u)

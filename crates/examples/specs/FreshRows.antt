@@ -1,5 +1,5 @@
 -- The rows on a fresh image: computed, at the real sizes and with the real superblock.
-use Rattle.std.specs.Prelude.{◌≡◌, refl, ℕ, zero, suc, ◌+◌, ◌*◌, ◌/◌, ◌≤◌, ◌<◌, false, not, List, [], ◌∷◌, take}
+use Rattle.std.specs.Prelude.{◌≡◌, refl, ℕ, zero, suc, ◌+◌, ◌*◌, ◌/◌, ◌≤◌, ◌<◌, false, List, [], ◌∷◌, take}
 use Rattle.std.proofs.Common.{ap, arith}
 use Rattle.config.specs.Pages.{count}
 use Rattle.memory.specs.Bytes.{zeros, overwrite, resize, filled}
@@ -16,7 +16,7 @@ use Rattle.extents.specs.Plan.{additions}
 use Rattle.update.specs.Lists.{put, refill, tabulate}
 use Rattle.update.specs.Pages.{add_number_if, span, grown_numbers}
 use Rattle.update.specs.Image.{image_byte, image_page}
-use Rattle.update.specs.Update.{accepted, push_run, raw, over_byte, budget_bytes, raised, touch, blank, copy, stretch, patch, finish, grow, grow_to, chop, tail, truncated, whole_page, over_write, written, fresh, look_up, left, sized, passing, marked, try_touch, try_patch, try_finish, try_grow, try_grow_to, try_tail, try_chop, try_truncate, try_write}
+use Rattle.update.specs.Update.{push_run, raw, over_byte, budget_bytes, raised, touch, blank, copy, stretch, patch, finish, grow, grow_to, chop, tail, truncated, whole_page, over_write, written, fresh, look_up, sized, passing, marked, try_touch, try_patch, try_finish, try_grow, try_grow_to, try_tail, try_chop, try_truncate, try_write}
 use Rattle.update.specs.Buffers.{frame_count, entry_count, wiped, cached, short_buffers, view, overlay_of, put_back}
 use Rattle.store.specs.declared.State.{State}
 use Rattle.store.specs.Codec.{stored, real_codec}

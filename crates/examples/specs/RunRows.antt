@@ -1,5 +1,5 @@
 -- The rows on 1,024 runs: of any memory that is long enough, by laws. Each starts from what opening answers.
-use Rattle.std.specs.Prelude.{◌≡◌, Bool, true, not, length, get_or, Ok}
+use Rattle.std.specs.Prelude.{◌≡◌, Bool, true, length, get_or, Ok}
 use Rattle.std.proofs.Math.Path.{refl, sym, ap}
 use Rattle.std.proofs.Common.{◌∙◌, arith}
 use Prim.Native.Nat.{ℕ, zero, suc, ◌+◌, ◌*◌, ◌≤◌, ◌<◌}
@@ -7,7 +7,7 @@ use Rattle.std.proofs.Math.Bool.{false, cond}
 use mathlib.Core.List.{List, [], ◌∷◌}
 use borrow.Author.Tests.{le-ltb}
 use Rattle.config.specs.Pages.{count}
-use Rattle.config.specs.declared.refusal.Refusal.TheVariants.{ImageOutOfMemory, BufferTooShort}
+use Rattle.config.specs.declared.refusal.Refusal.TheVariants.{ImageOutOfMemory}
 use Rattle.memory.specs.Bytes.{zeros, filled}
 use Rattle.memory.specs.Laws.{length-zeros}
 use Rattle.memory.specs.Growth.{grow_to as growMemory, required as requiredPages}
@@ -30,14 +30,15 @@ use Rattle.store.specs.declared.State.{State}
 use Rattle.store.specs.Answers.{Done}
 use Rattle.store.specs.Codec.{sealed, stored, real_codec, real_stored, real_sealed}
 use Rattle.store.specs.Blocks.{importing, stale, refreshing, marks, after_commit}
-use Rattle.store.specs.Calls.{Call, write, truncate, Uses, uses, these, Lent, Out, out, number, short, update}
+use Rattle.store.specs.Calls.{Call, write, truncate, Uses, uses, these, Lent, Out, out, number, short}
 use Rattle.store.specs.Plan.{store_plan}
-use Rattle.store.specs.Store.{resting, refuse, act, swept, direct, no_overlay, budget_of, image, image_bytes, unchanged, planned_runs, settle, commit_over, store, runs_of}
+use Rattle.store.specs.Store.{resting, act, swept, direct, no_overlay, budget_of, image, image_bytes, unchanged, planned_runs, settle, commit_over, store, runs_of}
 use Rattle.store.specs.Lawful.{Fits}
 use Rattle.store.specs.RealCodec.{real_lawful}
 use Rattle.store.proofs.MemoryLaws.{stored-length}
 use Rattle.store.specs.Opening.{Opened, outside, not_opened, open_loaded, open_image, open'}
 use Rattle.store.proofs.ClosingLaws.{open_unmarked}
+use Rattle.store.proofs.WaysOut.{import_free, store_done}
 use Rattle.examples.specs.FreshRows.{real, after, started}
 
 -- n runs of one page each, a page apart, from page a on
@@ -170,11 +171,10 @@ module _ (pages : ℕ) (rs : List ZeroExtent) (few : length rs ≡ 1024) (sorted
   not_short c e = rw (e, mem_long, le-ltb n (516 * 65536) long)
 
   done : (c : Call) → uses c ≡ these true true true → (real (state_runs pages rs) (lent_runs pages rs n) c).answer ≡ (act 16384 65536 8 1024 18446744073709551615 real_codec (state_runs pages rs) (lent_runs pages rs n) c).answer
-  unfolding store
   done c e =
       let s : State = state_runs pages rs in
       let l : Lent = lent_runs pages rs n in
-      ap (λ (z : Bool). (cond z (refuse s l c BufferTooShort) (swept 16384 65536 8 1024 18446744073709551615 real_codec (uses c).work? (act 16384 65536 8 1024 18446744073709551615 real_codec s l c))).answer) (not_short c e)
+      ap (λ (x : Out). x.answer) (store_done 16384 65536 8 1024 18446744073709551615 real_codec s l c (not_short c e) (import_free s c unmarked))
       ∙ ap (λ (z : Uses). (swept 16384 65536 8 1024 18446744073709551615 real_codec z.work? (act 16384 65536 8 1024 18446744073709551615 real_codec s l c)).answer) e
 
 -- an update of these sizes, pages and record, with no cache and no budget

@@ -53,7 +53,7 @@ begun_same : (p : Plain) (m now : List ℕ) → Begun p m → at_begin' p p m no
 begun_same (closed f) m now h = sym h
 begun_same (drafting f d) m now h = refl
 
-room : (st an : List ℕ) → length st ≡ 336 → (b : Bool) → ltb (length an) 4 ≡ b → too_short st an ≡ b
+pub room : (st an : List ℕ) → length st ≡ 336 → (b : Bool) → ltb (length an) 4 ≡ b → too_short st an ≡ b
 unfolding too_short
 room st an n b e = rw (eq-eqb (length st) 336 n) e
 

@@ -1,19 +1,17 @@
 -- DEMAND 3 FOR A HOST, OF THE LAST CALL: what a C call owes after any list of C calls; every read gives the bytes and the full-or-short answer of the plain
 -- file.
-use Rattle.std.specs.Prelude.{◌≡◌, refl, ℕ, false, cond, List, [], ◌∷◌, ◌++◌, length, take}
+use Rattle.std.specs.Prelude.{◌≡◌, refl, ℕ, false, List, [], ◌∷◌, ◌++◌, length}
 use Rattle.std.proofs.Common.{subst}
 use Rattle.memory.specs.Laws.{split}
 use Rattle.words.specs.Words.{Bytes}
 use Rattle.update.specs.Buffers.{Buffers}
 use Rattle.store.specs.Calls.{Call, read, Lent}
 use Rattle.transfer.specs.OnMemory.{lent}
-use Rattle.encoding.specs.StateBytes.{state_in}
 use Rattle.plain_file.specs.Plain.{Plain, closed, drafting}
-use Rattle.plain_file.specs.Claim.{Unspoiled}
-use Rattle.plain_file.specs.Sizes.{plain_of, Lends', leaves', at_begin', choose'}
+use Rattle.plain_file.specs.Sizes.{plain_of, leaves', choose'}
 use Rattle.host_calls.specs.Made.{Made}
 use Rattle.host_calls.specs.CCalls.{CCall, made_of, made_all, COpened, memory_passed, state_left, memory_left}
-use Rattle.host_calls.specs.HostClaim.{Untouched, HostReads, HostOwed, live, too_little, plain_after, HostPromise}
+use Rattle.host_calls.specs.HostClaim.{Untouched, HostOwed, too_little, plain_after, HostPromise}
 use Rattle.host_calls.proofs.Host.{host_demand3}
 use Rattle.host_calls.specs.LastCall.{state_run, plain_run, left_run, begin_run, Premises, Last, Shows}
 

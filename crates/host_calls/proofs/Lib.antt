@@ -2,3 +2,4 @@ pub mod Seen
 pub mod Host
 pub mod LastCall
 pub mod CCallLaws
+pub mod Barred

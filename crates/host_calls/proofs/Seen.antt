@@ -1,8 +1,7 @@
 -- What is seen of a C call is what the store's definition makes of the state that the bytes hold.
-use Rattle.std.specs.Prelude.{◌≡◌, ℕ, ◌*◌, ◌≤◌, Bool, true, false, List, eqb, length, take}
-use Rattle.std.proofs.Math.Path.{refl, ap}
-use Rattle.std.proofs.Common.{sym, ◌∙◌, subst, ne_eqb}
-use Rattle.std.proofs.Math.Bool.{cond}
+use Rattle.std.specs.Prelude.{◌≡◌, ℕ, ◌*◌, ◌≤◌, Bool, true, false, List, eqb, length, take, cond}
+use Rattle.std.proofs.Math.Path.{refl}
+use Rattle.std.proofs.Common.{sym, ◌∙◌, subst, ne_eqb, ap}
 use Rattle.config.specs.declared.refusal.Refusal.TheVariants.{BufferTooShort}
 use Rattle.memory.specs.Bytes.{overwrite}
 use Rattle.memory.specs.Laws.{split}
@@ -10,17 +9,18 @@ use Rattle.update.specs.ListLaws.{clash}
 use Rattle.store.specs.declared.State.{State}
 use Rattle.store.specs.Answers.{Answer}
 use Rattle.store.specs.Cases.{by_test}
-use Rattle.store.proofs.OnlyShort.{only_short}
+use Rattle.store.proofs.Grounds.{only_short}
+use Rattle.store.proofs.WaysOut.{store_cases, store_short}
 use Rattle.store.specs.Codec.{real_codec}
 use Rattle.store.specs.Calls.{Call, begin, read, write, truncate, commit, rollback, file_size, import_begin, import_chunk, import_finish, import_cancel, export, checksum, refresh, refresh_step, Lent, Out, number, uses, Mode, idle, update, mode_of}
-use Rattle.store.specs.Store.{do_export, do_checksum, alone, act, swept, refuse, store}
+use Rattle.store.specs.Store.{do_export, do_checksum, alone, act, swept, refuse}
 use Rattle.encoding.specs.StateBytes.{state_bytes, state_in, bytes_long}
 use Rattle.encoding.specs.Called.{four, values, Shown, showing, pick, step_shown, answer_shown, Called, called_as, too_short, shown, told, refused_short, out_of, call, ask, call_short, ask_short}
 use Rattle.plain_file.specs.Claim.{Reads, Kept, Direct, Unspoiled}
-use Rattle.plain_file.specs.Sizes.{short', buffers_short', Owed', Enough'}
-use Rattle.plain_file.specs.Plain.{Plain, closed, drafting}
+use Rattle.plain_file.specs.Sizes.{short', buffers_short', plain_of, Stays', Owed', Enough'}
+use Rattle.plain_file.specs.Plain.{File, Plain, closed, drafting}
 use Rattle.host_calls.specs.Made.{Made, looks, promised, gives, ByC}
-use Rattle.host_calls.specs.HostClaim.{Untouched, Tells, HostReads, live, HostOwed, HostEnough}
+use Rattle.host_calls.specs.HostClaim.{Untouched, Tells, HostReads, live, HostOwed, HostEnough, HostStays}
 use Rattle.host_calls.specs.Seen.{Seen, right}
 
 -- ## Calls that look leave the state
@@ -52,8 +52,7 @@ module _ (s : State) (l : Lent) where
   looks_stay (refresh_step n) e = clash e refl
 
   pub stays : (c : Call) → looks c ≡ true → Stays (out_of s l c)
-  unfolding store
-  stays c e = by_test Stays (short' s l c) _ _ (λ t. refl) (λ f. looks_stay c e)
+  stays c e = store_cases 16384 65536 8 1024 18446744073709551615 real_codec s l c Stays (λ t. refl) (λ f b. refl) (λ f b. looks_stay c e)
 
 -- ## A call by its cases
 
@@ -73,8 +72,7 @@ module _ (st an : List ℕ) (l : Lent) (c : Call) where
   call_long f = rw f refl
 
   refuses : short' (state_in st) l c ≡ true → x ≡ refuse (state_in st) l c BufferTooShort
-  unfolding store
-  refuses t = ap (λ (z : Bool). cond z (refuse (state_in st) l c BufferTooShort) (swept 16384 65536 8 1024 18446744073709551615 real_codec (uses c).work? (act 16384 65536 8 1024 18446744073709551615 real_codec (state_in st) l c))) t
+  refuses t = store_short 16384 65536 8 1024 18446744073709551615 real_codec (state_in st) l c t
 
   told_35 : told st an (refuse (state_in st) l c BufferTooShort) ≡ refused_short st an l c
   unfolding answer_shown
@@ -120,6 +118,15 @@ module _ (e : Made) (h : ByC e) where
   pub untouched_35 : too_short e.state e.answer ≡ false → short' (state_in e.state) e.lent e.call ≡ true → Untouched e
   untouched_35 f t = by_refusal (promised_35 e.state e.answer e.lent e.call f t)
 
+  seen_stepped : too_short e.state e.answer ≡ false → (number y.answer ≡ 35 → ⊥) → looks e.call ≡ false → gives e ≡ called_as (stepped e.state e.answer e.lent e.call y) y.lent y.filled
+  seen_stepped f other t =
+      h ∙ ap (λ (b : Bool). cond b (ask e.state e.answer e.lent e.call) (call e.state e.answer e.lent e.call)) t
+      ∙ call_long e.state e.answer e.lent e.call f ∙ shown_other e.state e.answer e.lent e.call y other
+
+  -- a call that does not only look writes the state that it leaves, in the library's own form
+  pub bytes_left : too_short e.state e.answer ≡ false → (number y.answer ≡ 35 → ⊥) → looks e.call ≡ false → e.state' ≡ state_bytes y.state
+  bytes_left f other t = ap (λ (z : Called). z.state) (seen_stepped f other t)
+
   -- THE CALL: what is seen is the definition's on the state in the bytes, and the bytes that are left hold its state
   pub seen : length e.state ≡ 336 → too_short e.state e.answer ≡ false → short' (state_in e.state) e.lent e.call ≡ false → Seen e y
   seen n f g =
@@ -136,9 +143,7 @@ module _ (e : Made) (h : ByC e) where
         lent = ap (λ (z : Called). z.lent) r;
         filled = ap (λ (z : Called). z.filled) r;
       })
-      (λ t. let r : gives e ≡ called_as (stepped e.state e.answer e.lent e.call y) y.lent y.filled =
-      h ∙ ap (λ (b : Bool). cond b (ask e.state e.answer e.lent e.call) (call e.state e.answer e.lent e.call)) t
-      ∙ call_long e.state e.answer e.lent e.call f ∙ shown_other e.state e.answer e.lent e.call y other in
+      (λ t. let r : gives e ≡ called_as (stepped e.state e.answer e.lent e.call y) y.lent y.filled = seen_stepped f other t in
       record {
         returned = ap (λ (z : Called). z.number) r;
         answer = ap (λ (z : Called). z.answer) r;
@@ -172,6 +177,9 @@ module _ (e : Made) (x : Out) (is : Seen e x) where
   kept_seen : (m b w : List ℕ) → Kept m b x.lent.mem w (x.state.count.0 * 65536) → Kept m b e.lent'.mem w (live e.state')
   kept_seen m b w h = record { call = mem_is ∙ h.call; began = ap (λ (z : State). take (z.count.0 * 65536) w) is.state ∙ h.began }
 
+  stays_seen : (f : File) → Stays' f x → HostStays f e
+  stays_seen f h = ap plain_of mem_is ∙ ap closed h
+
   pub enough_seen : (st : List ℕ) → Enough' (state_in st) e.lent x → HostEnough st e
   enough_seen st h = record {
     memory = λ q. subst (λ (z : State). z.count.0 * 65536 ≤ length e.lent.mem) (sym is.state) (h.memory q);
@@ -190,10 +198,10 @@ module _ (e : Made) (x : Out) (is : Seen e x) where
   owed_seen (closed f) m commit w h = (is.returned ∙ h.0, mem_is ∙ h.1)
   owed_seen (closed f) m rollback w h = (is.returned ∙ h.0, mem_is ∙ h.1)
   owed_seen (closed f) m file_size w h = tells _ _ h refl refl
-  owed_seen (closed f) m (import_begin a y) w h = tt
-  owed_seen (closed f) m (import_chunk o bs) w h = tt
-  owed_seen (closed f) m import_finish w h = tt
-  owed_seen (closed f) m import_cancel w h = tt
+  owed_seen (closed f) m (import_begin a y) w h = stays_seen f h
+  owed_seen (closed f) m (import_chunk o bs) w h = stays_seen f h
+  owed_seen (closed f) m import_finish w h = λ q. stays_seen f (h (λ z. q (is.returned ∙ z)))
+  owed_seen (closed f) m import_cancel w h = stays_seen f h
   owed_seen (closed f) m (export o d) w h = tt
   owed_seen (closed f) m checksum w h = tt
   owed_seen (closed f) m refresh w h = tt

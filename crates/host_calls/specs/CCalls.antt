@@ -1,16 +1,13 @@
 -- Calls that were made of the C functions. What is known of a call is what a caller learns by the function's own contract, and nothing is copied: a contract
 -- that says less, or something else, fails here.
-use Rattle.std.specs.Prelude.{◌≡◌, ℕ, ◌≤◌, List, [], ◌∷◌, length}
-use Rattle.std.proofs.Common.{arith}
+use Rattle.std.specs.Prelude.{ℕ, List, [], ◌∷◌}
 use Rattle.update.specs.Laid.{bufs}
 use Rattle.update.specs.Buffers.{Buffers}
 use Rattle.store.specs.Calls.{Call, begin, read, write, truncate, commit, rollback, file_size, import_begin, import_chunk, import_finish, import_cancel, export, checksum, refresh, refresh_step, Lent}
 use Rattle.transfer.specs.OnMemory.{lent}
-use Rattle.encoding.specs.Called.{open_called, open_at}
 use Rattle.yuharopu.specs.StoreCalls.{is_set}
-use Rattle.plain_file.specs.Sizes.{Word'}
 use Rattle.plain_file.specs.BlobCalls.{CallOf}
-use Rattle.host_calls.specs.Made.{Made, ByC, AllByC}
+use Rattle.host_calls.specs.Made.{Made}
 use Rattle.yuharopu.proofs.yuharopu_begin_update.Kinds.{ps as ps-begin-update, r as r-begin-update}
 use Rattle.yuharopu.proofs.yuharopu_begin_update.Reads.{Learnt as begin-update-promises}
 use Rattle.yuharopu.proofs.yuharopu_read_at.Kinds.{ps as ps-read-at, r as r-read-at}

@@ -1,15 +1,16 @@
--- What a host has from a call for those that follow, and from an opening.
+-- What a host has from a call for those that follow, from an opening, and from a direct call that an import bars.
 use Rattle.std.specs.Prelude.{◌≡◌, ℕ, false, length}
 use mathlib.Core.List.{List}
+use Rattle.memory.specs.Bytes.{overwrite}
 use Rattle.words.specs.Words.{Bytes}
 use Rattle.store.specs.declared.State.{State}
 use Rattle.store.specs.Calls.{Lent, number}
 use Rattle.store.specs.Blocks.{importing}
 use Rattle.store.specs.Opening.{Opened}
-use Rattle.transfer.specs.OnMemory.{lent}
-use Rattle.encoding.specs.StateBytes.{state_in}
-use Rattle.plain_file.specs.Plain.{closed}
+use Rattle.encoding.specs.StateBytes.{state_bytes, state_in}
+use Rattle.encoding.specs.Called.{four}
 use Rattle.plain_file.specs.Sizes.{plain_of}
+use Rattle.host_calls.specs.Made.{Made}
 use Rattle.host_calls.specs.CCalls.{COpened, memory_passed, count_passed, state_left, memory_left}
 
 -- what a call gives back, to those that follow
@@ -29,3 +30,12 @@ pub record Opens (st' m' : List ℕ) (x : Opened) : Type 0 where
 pub record HostOpens (o : COpened) : Type 0 where
   pub none_open : importing (state_in (state_left o)).block ≡ false
   pub same_file : Bytes (memory_passed o) → (count_passed o ≡ 0 → ⊥) → plain_of (memory_left o) ≡ plain_of (memory_passed o)
+
+-- 10 OF A DIRECT CALL FOR A HOST (02, W-203): "It refuses with 10, right after 35 and, like 35, with nothing changed, lent frames and lists included". So memory, frames,
+-- page numbers, clean frames, record and work list stay to the last element; the bytes of the state hold the state that they held, in the library's own form
+pub record HostBarred (e : Made) : Type 0 where
+  pub returned : e.returned ≡ 10
+  pub lent : e.lent' ≡ e.lent
+  pub state : state_in e.state' ≡ state_in e.state
+  pub bytes : e.state' ≡ state_bytes (state_in e.state)
+  pub answer : e.answer' ≡ overwrite 0 (four 0 0 0 0) e.answer

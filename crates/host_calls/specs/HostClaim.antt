@@ -1,13 +1,12 @@
 -- Demand 3 as a host sees it: the numbers that the C functions return, four numbers of an answer, byte slices, and a state of 336 bytes.
 use Rattle.std.specs.Prelude.{◌≡◌, refl, ℕ, ◌+◌, ◌*◌, ◌≤◌, Bool, false, ◌||◌, List, [], ◌∷◌, ltb, leb, eqb, length, take, drop}
 use Rattle.memory.specs.Bytes.{overwrite, resize}
-use Rattle.store.specs.declared.State.{State}
 use Rattle.store.specs.Calls.{Call, begin, read, write, truncate, commit, rollback, file_size, import_begin, import_chunk, import_finish, import_cancel, export, checksum, refresh, refresh_step, Lent, lent_bytes, mode_of}
 use Rattle.encoding.specs.StateBytes.{flag, state_in}
 use Rattle.encoding.specs.Called.{four}
 use Rattle.plain_file.specs.Plain.{File, Draft, Plain, closed, drafting, copied, draft_write, draft_truncate}
 use Rattle.plain_file.specs.Claim.{Kept, Direct, Unspoiled}
-use Rattle.plain_file.specs.Sizes.{short', buffers_short', plain_step', ground', Lends', leaves', at_begin', choose'}
+use Rattle.plain_file.specs.Sizes.{short', buffers_short', plain_of, plain_step', ground', Lends', leaves', at_begin', choose'}
 use Rattle.host_calls.specs.Made.{Made}
 
 -- ## What a host sees
@@ -38,6 +37,10 @@ ground_of f d l = ground' f d (length l.mem)
 abbrev pub HostDirect : File → Draft → ℕ → Made → Type 0
 HostDirect f d end e = Direct 18446744073709551615 end e.returned (ground_of f d e.lent) e.lent.mem e.lent'.mem
 
+-- 02, W-202 with W-203: the image in the memory that the call left is the file that was there
+abbrev pub HostStays : File → Made → Type 0
+HostStays f e = plain_of e.lent'.mem ≡ closed f
+
 -- how many bytes of memory are live
 abbrev pub live : List ℕ → ℕ
 live st = (state_in st).count.0 * 65536
@@ -53,10 +56,10 @@ HostOwed (closed f) m e (truncate n) w = HostDirect f (draft_truncate 16384 n (c
 HostOwed (closed f) m e commit w = (e.returned ≡ 0) × (e.lent'.mem ≡ e.lent.mem)
 HostOwed (closed f) m e rollback w = (e.returned ≡ 0) × (e.lent'.mem ≡ e.lent.mem)
 HostOwed (closed f) m e file_size w = Tells (length f.bytes) e
-HostOwed (closed f) m e (import_begin a x) w = Unit {0}
-HostOwed (closed f) m e (import_chunk o bs) w = Unit {0}
-HostOwed (closed f) m e import_finish w = Unit {0}
-HostOwed (closed f) m e import_cancel w = Unit {0}
+HostOwed (closed f) m e (import_begin a x) w = HostStays f e
+HostOwed (closed f) m e (import_chunk o bs) w = HostStays f e
+HostOwed (closed f) m e import_finish w = (e.returned ≡ 0 → ⊥) → HostStays f e
+HostOwed (closed f) m e import_cancel w = HostStays f e
 HostOwed (closed f) m e (export o d) w = Unit {0}
 HostOwed (closed f) m e checksum w = Unit {0}
 HostOwed (closed f) m e refresh w = Unit {0}

@@ -1,7 +1,6 @@
 -- The last of a list of C calls: what the calls before it leave of the state's bytes, the plain file and the slices, and what is owed of it.
 use Rattle.std.specs.Prelude.{◌≡◌, ℕ, cond, List, [], ◌∷◌, take}
-use Rattle.store.specs.Calls.{read, Lent}
-use Rattle.transfer.specs.OnMemory.{lent}
+use Rattle.store.specs.Calls.{Lent}
 use Rattle.encoding.specs.StateBytes.{state_in}
 use Rattle.plain_file.specs.Plain.{Plain, closed, drafting}
 use Rattle.plain_file.specs.Claim.{Unspoiled}

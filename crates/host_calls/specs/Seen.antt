@@ -3,7 +3,7 @@ use Rattle.std.specs.Prelude.{◌≡◌, ℕ, List, length}
 use Rattle.memory.specs.Bytes.{overwrite}
 use Rattle.store.specs.Calls.{Call, Lent, Out, number}
 use Rattle.encoding.specs.StateBytes.{state_in}
-use Rattle.encoding.specs.Called.{values, Called, call}
+use Rattle.encoding.specs.Called.{values, Called}
 use Rattle.host_calls.specs.Made.{Made, promised}
 
 pub record Seen (e : Made) (x : Out) : Type 0 where

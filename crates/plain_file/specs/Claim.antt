@@ -47,6 +47,10 @@ module _ (P S C L M : ℕ) (k : Codec) where
   abbrev pub Directly : File → Draft → ℕ → Lent → Out → Type 0
   Directly f d end l x = Direct M end (number x.answer) (verdict_number (file_ground P S L M f d (length l.mem))) l.mem x.lent.mem
 
+  -- 02, W-202 with W-203: the image in the memory that a call left is the file that was there; of the import calls only an accepted finish makes another one
+  abbrev pub Stays : File → Out → Type 0
+  Stays f x = file_of P S L M k x.lent.mem ≡ f
+
   -- of the plain file, the memory when its update began, the call, what is lent, what comes out, and all that is left then
   abbrev pub Owed : Plain → List ℕ → Call → Lent → Out → Lent → Type 0
   Owed (closed f) m (begin g a b) l x w = Unit {0}
@@ -56,10 +60,10 @@ module _ (P S C L M : ℕ) (k : Codec) where
   Owed (closed f) m commit l x w = (number x.answer ≡ 0) × (x.lent.mem ≡ l.mem)
   Owed (closed f) m rollback l x w = (number x.answer ≡ 0) × (x.lent.mem ≡ l.mem)
   Owed (closed f) m file_size l x w = x.answer ≡ Size (length f.bytes)
-  Owed (closed f) m (import_begin a e) l x w = Unit {0}
-  Owed (closed f) m (import_chunk o bs) l x w = Unit {0}
-  Owed (closed f) m import_finish l x w = Unit {0}
-  Owed (closed f) m import_cancel l x w = Unit {0}
+  Owed (closed f) m (import_begin a e) l x w = Stays f x
+  Owed (closed f) m (import_chunk o bs) l x w = Stays f x
+  Owed (closed f) m import_finish l x w = (number x.answer ≡ 0 → ⊥) → Stays f x
+  Owed (closed f) m import_cancel l x w = Stays f x
   Owed (closed f) m (export o d) l x w = Unit {0}
   Owed (closed f) m checksum l x w = Unit {0}
   Owed (closed f) m refresh l x w = Unit {0}

@@ -1,13 +1,13 @@
 -- DEMAND 3 OF THE CODE, for a caller of crate blob: of the calls that were made, by what their own contracts say. Nothing is asked of arguments that no caller
 -- can pass.
-use Rattle.std.specs.Prelude.{◌≡◌, ℕ, ◌*◌, false, List, [], ◌∷◌, take}
-use Rattle.std.proofs.Common.{sym, ap, ◌∙◌, subst, arith}
+use Rattle.std.specs.Prelude.{◌≡◌, refl, ℕ, ◌*◌, Bool, true, false, List, [], ◌∷◌, eqb, take}
+use Rattle.std.proofs.Common.{sym, ap, ◌∙◌, subst, arith, ne_eqb}
 use Rattle.memory.specs.Laws.{split}
 use Rattle.words.specs.Words.{Bytes}
 use Rattle.update.specs.Buffers.{Buffers}
 use Rattle.store.specs.declared.State.{State}
 use Rattle.store.specs.Codec.{real_codec}
-use Rattle.store.specs.Calls.{Call, Lent, Out, number}
+use Rattle.store.specs.Calls.{Call, import_begin, import_chunk, import_finish, import_cancel, Lent, Out, number}
 use Rattle.store.specs.Blocks.{importing}
 use Rattle.store.specs.Opening.{Opened, open'}
 use Rattle.store.specs.RealCodec.{real_lawful}
@@ -15,7 +15,7 @@ use Rattle.store.proofs.ClosingLaws.{no_import, refused_unchanged}
 use Rattle.transfer.specs.OnMemory.{lent}
 use Rattle.lending.specs.Lending.{calls}
 use Rattle.opening.specs.Opened.{opened}
-use Rattle.plain_file.specs.Plain.{Plain, closed}
+use Rattle.plain_file.specs.Plain.{File, Plain, closed, from_memory}
 use Rattle.plain_file.specs.Claim.{Claim}
 use Rattle.plain_file.specs.Sizes.{short', plain_of, plain_step', told', Word', Lends', leaves', at_begin', Owed', Nothing', Enough', choose', Turn', Promise'}
 use Rattle.plain_file.specs.Restored.{opened_file_given}
@@ -115,3 +115,24 @@ open_keeps o ok bytes some =
     ap (λ (x : Opened). plain_of x.mem) (by_open o)
     ∙ ap closed (opened_file_given 16384 65536 8 1024 18446744073709551615 real_codec (omega arith) (omega arith) real_lawful (count_passed o) (memory_passed o) bytes (open_typed o) some
     (sym (ap (λ (x : Opened). number x.answer) (by_open o)) ∙ ok))
+
+-- ## Imports (02, W-202 with W-203)
+
+set_same : (b : Bool) (m : List ℕ) (f : File) → plain_of m ≡ closed f → from_memory 16384 65536 1024 18446744073709551615 real_codec b m (closed f) ≡ closed f
+set_same true m f e = e
+set_same false m f e = refl
+
+-- 01 sets the plain file by an import's calls "to the image in the memory they leave": where a begin, a chunk or a cancel has what is owed, that is the file
+-- that it was, so that only an accepted finish changes it
+module _ (f : File) (m : List ℕ) (l : Lent) (x : Out) (w : Lent) where
+  pub begin_keeps : (t e : ℕ) → Owed' (closed f) m (import_begin t e) l x w → plain_after (closed f) (import_begin t e) l x ≡ closed f
+  begin_keeps t e h = set_same (eqb (number x.answer) 0) x.lent.mem f (ap closed h)
+
+  pub chunk_keeps : (o : ℕ) (bs : List ℕ) → Owed' (closed f) m (import_chunk o bs) l x w → plain_after (closed f) (import_chunk o bs) l x ≡ closed f
+  chunk_keeps o bs h = set_same (eqb (number x.answer) 0) x.lent.mem f (ap closed h)
+
+  pub cancel_keeps : Owed' (closed f) m import_cancel l x w → plain_after (closed f) import_cancel l x ≡ closed f
+  cancel_keeps h = set_same (eqb (number x.answer) 0) x.lent.mem f (ap closed h)
+
+  pub refused_finish_keeps : (number x.answer ≡ 0 → ⊥) → plain_after (closed f) import_finish l x ≡ closed f
+  refused_finish_keeps refused = ap (λ (b : Bool). from_memory 16384 65536 1024 18446744073709551615 real_codec b x.lent.mem (closed f)) (ne_eqb (number x.answer) 0 refused)

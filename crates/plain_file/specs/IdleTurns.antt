@@ -12,7 +12,7 @@ use borrow.Author.Tests.{ltb-true, ltb-false, eqb-true, eqb-false, ne_eqb}
 use Rattle.config.specs.Refusals.{numbers_of}
 use Rattle.config.specs.Pages.{page_lo}
 use Rattle.config.specs.declared.refusal.Refusal.{Refusal}
-use Rattle.config.specs.declared.refusal.Refusal.TheVariants.{ChecksumMismatch}
+use Rattle.config.specs.declared.refusal.Refusal.TheVariants.{ImportAlreadyStarted, ChecksumMismatch}
 use Rattle.memory.specs.Bytes.{overwrite}
 use Rattle.memory.specs.Laws.{split, length-overwrite, overwrite_lo}
 use Rattle.memory.specs.Growth.{stable}
@@ -28,7 +28,7 @@ use Rattle.update.specs.BufferLaws.{cached_put, view_fresh}
 use Rattle.update.specs.Refused.{Weak, Outcome, write_out, truncate_out}
 use Rattle.update.specs.Reading.{reads}
 use Rattle.store.specs.declared.State.{State}
-use Rattle.store.specs.Cases.{by_test}
+use Rattle.store.specs.Cases.{by_test, not_false}
 use Rattle.store.specs.Tries.{RefusedBy, write_by, truncate_by}
 use Rattle.store.specs.Answers.{Answer}
 use Rattle.store.specs.Answers.{Done, Size, Read, Checksum, Refused}
@@ -37,22 +37,17 @@ use Rattle.store.specs.Blocks.{importing, refreshing, after_import_begin, after_
 use Rattle.store.proofs.BlockLaws.{after_begin, begin_keeps, after_chunk, after_finish, refresh_keeps, refresh_imports, step_keeps, step_imports, seal_importing}
 use Rattle.store.specs.Blocks.{Keeps, KeepsImport, ImportBegins, ChunkKeeps, Finishes}
 use Rattle.store.specs.Calls.{Call, begin, read, write, truncate, commit, rollback, file_size, import_begin, import_chunk, import_finish, import_cancel, export, checksum, refresh, refresh_step, Lent, Out, out, number, uses, idle, short, cleared, with_mem}
-use Rattle.store.specs.Store.{resting, working, onward, budget_of, image, image_bytes, image_sum, commit_over, direct, do_begin, restore, do_import_begin, place_chunk, do_import_chunk, do_import_finish, do_import_cancel, do_export, do_checksum, do_refresh, progress, refresh_from, do_refresh_step, act, swept}
+use Rattle.store.specs.Store.{resting, working, onward, budget_of, image, image_bytes, image_sum, commit_over, direct, do_begin, restore, do_import_begin, place_chunk, do_import_chunk, do_import_finish, do_import_cancel, do_export, do_checksum, do_refresh, progress, refresh_from, do_refresh_step, act, swept, barred, refuse}
 use Rattle.store.specs.Lawful.{Fits, Lawful, Good}
 use Rattle.store.proofs.MemoryLaws.{grow_cases, stored-length}
-use Rattle.store.specs.Facts.{Reaches}
+use Rattle.store.specs.Facts.{Reaches, Carries, Apart}
 use Rattle.store.proofs.RestoreLaws.{cancel_carries, restore_good}
-use Rattle.store.specs.Facts.{Carries}
 use Rattle.plain_file.specs.Plain.{File, Draft, Plain, closed, drafting, copied, draft_write, draft_truncate, verdict_number, file_ground, file_of, changed}
 use Rattle.plain_file.specs.Claim.{Direct, Lends, leaves, at_begin, Word}
-use Rattle.plain_file.specs.Invariant.{Draws, Inv, good_near, file_near, inv_back}
+use Rattle.plain_file.specs.Invariant.{Draws, Inv, good_near, file_near, inv_back, file_alike}
 use Rattle.plain_file.specs.Ends.{file-length, file_byte, Committed, committed}
 use Rattle.plain_file.specs.Restored.{restore_file}
 use Rattle.plain_file.specs.Turns.{Turned, mem_lent, draws_write, draws_truncate, inv_done, inv_swept, closed_inv}
-
-not_false : (a : Bool) → not a ≡ false → a ≡ true
-not_false true h = refl
-not_false false h = clash refl h
 
 module _ (P S C L M : ℕ) (k : Codec) (pos : 0 < P) (spos : 0 < S) (wide : P ≤ S) (laws : Lawful S L M k) where
   -- ## An image's bytes, at any offset
@@ -260,6 +255,14 @@ module _ (P S C L M : ℕ) (k : Codec) (pos : 0 < P) (spos : 0 < S) (wide : P �
       unfolding restore
       set_inv h' r y = inv_done P S C L M k pos spos laws (restore P S C L M k s l h' r) (closed (file_of P S L M k (restore P S C L M k s l h' r).lent.mem)) [] w (restore_good P S C L M k laws c h h' l.mem g y, refl)
 
+      -- the image in memory is the file: as it was lent, and with a block stored
+      stays : file_of P S L M k l.mem ≡ f
+      stays = sym q
+
+      stays_stored : (h' : Superblock) (r : Answer) → Carries S M c h h' → file_of P S L M k (restore P S C L M k s l h' r).lent.mem ≡ f
+      unfolding restore
+      stays_stored h' r y = restore_file P S C L M k pos spos laws c h h' l.mem g y ∙ stays
+
       stable_low : S ≤ c * S
       stable_low = omega (arith, g.base_low, g.inside)
 
@@ -287,18 +290,19 @@ module _ (P S C L M : ℕ) (k : Codec) (pos : 0 < P) (spos : 0 < S) (wide : P �
       import_begin_lem a b =
           let Q : Out → Type 0 = λ z. Turned P S C L M k (closed f) m (import_begin a b) l z w in
           by_test Q (importing h) _ _
-          (λ x. record { owed = tt; inv = same })
+          (λ x. record { owed = stays; inv = same })
           (λ n. by_test Q (ltb M (c * S + a)) _ _
-          (λ x. record { owed = tt; inv = same })
-          (λ x. record { owed = tt; inv = set_inv (after_import_begin a b (c * S) h) Done (import_carries a b (ltb-false M (c * S + a) x)) }))
+          (λ x. record { owed = stays; inv = same })
+          (λ x. let y : Carries S M c h (after_import_begin a b (c * S) h) = import_carries a b (ltb-false M (c * S + a) x) in
+          record { owed = stays_stored (after_import_begin a b (c * S) h) Done y; inv = set_inv (after_import_begin a b (c * S) h) Done y }))
 
       import_cancel_lem : Turned P S C L M k (closed f) m import_cancel l (do_import_cancel P S C L M k s l) w
       unfolding do_import_cancel restore
       import_cancel_lem =
           let Q : Out → Type 0 = λ z. Turned P S C L M k (closed f) m import_cancel l z w in
           by_test Q (not (importing h)) _ _
-          (λ x. record { owed = tt; inv = same })
-          (λ n. record { owed = tt; inv = set_inv (after_import_cancel h) Done (cancel_carries S M c h) })
+          (λ x. record { owed = stays; inv = same })
+          (λ n. record { owed = stays_stored (after_import_cancel h) Done (cancel_carries S M c h); inv = set_inv (after_import_cancel h) Done (cancel_carries S M c h) })
 
       refresh_turn : Turned P S C L M k (closed f) m refresh l (do_refresh P S C L M k s l) w
       unfolding do_refresh restore
@@ -362,25 +366,30 @@ module _ (P S C L M : ℕ) (k : Codec) (pos : 0 < P) (spos : 0 < S) (wide : P �
           let x : ℕ = k.hash k.seed (take h.import_total_size (drop h.import_base_offset l.mem)) in
           let b : Superblock = after_import_finish P x h in
           by_test Q (not (importing h)) _ _
-          (λ a. record { owed = tt; inv = same })
+          (λ a. record { owed = λ z. stays; inv = same })
           (λ a. by_test Q (not (eqb h.import_written_until h.import_total_size)) _ _
-          (λ e. record { owed = tt; inv = same })
+          (λ e. record { owed = λ z. stays; inv = same })
           (λ e. by_test Q (not (eqb x h.import_expected_checksum)) _ _
-          (λ d. record { owed = tt; inv = kept_inv (after_import_cancel h) (Refused (ChecksumMismatch h.import_expected_checksum x)) (cancel_carries S M c h) })
+          (λ d. let r : Answer = Refused (ChecksumMismatch h.import_expected_checksum x) in
+          record { owed = λ z. stays_stored (after_import_cancel h) r (cancel_carries S M c h); inv = kept_inv (after_import_cancel h) r (cancel_carries S M c h) })
           (λ d. record {
-            owed = tt;
+            owed = λ z. absurd (z refl);
             inv = inv_done P S C L M k pos spos laws (out (onward s c (sealed k b [])) (with_mem (stored k b [] l.mem) l) Done []) (closed (file_of P S L M k (stored k b [] l.mem))) [] w
                 (finish_good x (not_false _ a) (eqb-true h.import_written_until h.import_total_size (not_false _ e)), refl);
           })))
 
       -- a chunk: memory grew, and the bytes are put behind what was written
-      module _ (reach o : ℕ) (bs : List ℕ) (y : importing h ≡ true) (r : ℕ) (grown : List ℕ) (rc : Reaches S c reach l.mem r grown)
+      module _ (reach o : ℕ) (bs : List ℕ) (y : importing h ≡ true) (past : h.db_base_offset + h.db_size ≤ h.import_base_offset) (r : ℕ) (grown : List ℕ) (rc : Reaches S c reach l.mem r grown)
           (end : h.import_base_offset + (o + length bs) ≤ r * S) where
         abbrev put : List ℕ
         put = overwrite (h.import_base_offset + o) bs grown
 
         first_same : (j : ℕ) → j < S → get_or put j 0 ≡ get_or l.mem j 0
         first_same j lt = overwrite_lo (h.import_base_offset + o) bs grown j (omega (arith, g.import_low y)) ∙ rc.same j (omega (arith, stable_low))
+
+        -- the chunk lies past the file's bytes
+        file_same : (j : ℕ) → j < h.db_base_offset + h.db_size → get_or put j 0 ≡ get_or l.mem j 0
+        file_same j lt = overwrite_lo (h.import_base_offset + o) bs grown j (omega (arith, past)) ∙ rc.same j (omega (arith, g.inside))
 
         put-length : length put ≡ length l.mem
         put-length = length-overwrite (h.import_base_offset + o) bs grown ∙ rc.same_length
@@ -424,47 +433,73 @@ module _ (P S C L M : ℕ) (k : Codec) (pos : 0 < P) (spos : 0 < S) (wide : P �
         chunk_placed =
             let x : Out = restore P S C L M k (onward s r h) (with_mem put l) (after_import_chunk (o + length bs) h) Done in
             record {
-              owed = tt;
+              owed = restore_file P S C L M k pos spos laws r h (after_import_chunk (o + length bs) h) put chunk_good chunk_carries
+                  ∙ file_alike P S C L M k laws c h l.mem put g first_same file_same (omega (arith, put-length, stable_low, g.lent)) ∙ stays;
               inv = inv_done P S C L M k pos spos laws x (closed (file_of P S L M k x.lent.mem)) [] w (restore_good P S C L M k laws r h (after_import_chunk (o + length bs) h) put chunk_good chunk_carries, refl);
             }
 
-      import_chunk_lem : (o : ℕ) (bs : List ℕ) → Turned P S C L M k (closed f) m (import_chunk o bs) l (do_import_chunk P S C L M k s l o bs) w
+      import_chunk_lem : Apart s → (o : ℕ) (bs : List ℕ) → Turned P S C L M k (closed f) m (import_chunk o bs) l (do_import_chunk P S C L M k s l o bs) w
       unfolding do_import_chunk
-      import_chunk_lem o bs =
+      import_chunk_lem apart o bs =
           let Q : Out → Type 0 = λ z. Turned P S C L M k (closed f) m (import_chunk o bs) l z w in
           let e : ℕ = o + length bs in
           let n : ℕ = cond (eqb (length bs) 0) 0 (h.import_base_offset + e) in
           by_test Q (not (importing h)) _ _
-          (λ a. record { owed = tt; inv = same })
+          (λ a. record { owed = stays; inv = same })
           (λ a. by_test Q (not (eqb o h.import_written_until)) _ _
-          (λ b. record { owed = tt; inv = same })
+          (λ b. record { owed = stays; inv = same })
           (λ b. by_test Q (ltb M e) _ _
-          (λ d. record { owed = tt; inv = same })
+          (λ d. record { owed = stays; inv = same })
           (λ d. by_test Q (ltb h.import_total_size e) _ _
-          (λ u. record { owed = tt; inv = same })
+          (λ u. record { owed = stays; inv = same })
           (λ u. by_test Q (ltb M (h.import_base_offset + e)) _ _
-          (λ x. record { owed = tt; inv = same })
+          (λ x. record { owed = stays; inv = same })
           (λ x. grow_cases S spos c n l.mem g.lent (λ gr m'. Q (place_chunk P S C L M k s l o bs m' gr))
-          (λ r m' rc reach. chunk_placed n o bs (not_false _ a) r m' rc
+          (λ r m' rc reach. chunk_placed n o bs (not_false _ a) (apart (not_false _ a)).past r m' rc
           (split (eqb (length bs) 0)
           (λ z. omega (arith, tests, g.import_inside (not_false _ a), eqb-true o h.import_written_until (not_false _ b), mul-le-mul_right S rc.more))
           (λ z. let k1 : n ≡ h.import_base_offset + e = rw z in omega (arith, rc.reach))))
-          (λ full. record { owed = tt; inv = same }))))))
+          (λ full. record { owed = stays; inv = same }))))))
 
-    pub idle_turn : (b : Call) → Word P S C L M k b → short P S C L s l b ≡ false → Turned P S C L M k (closed f) m b l (swept P S C L M k (uses b).work? (act P S C L M k s l b)) w
+    -- ## A direct call while an import is open
+
+    -- the answer is none of the commit's, and memory is as it was
+    barred_owed : (end ground : ℕ) → Direct M end 10 ground l.mem l.mem
+    barred_owed end ground = record { accepted = λ z. absurd (omega (arith, z)); runs = λ z. absurd (omega (arith, z)); range = λ z q. absurd (omega (arith, z)); ceiling = λ z. absurd (omega (arith, z)); kept = λ z. refl }
+
+    pub barred_turn : (b : Call) → barred s b ≡ true → Turned P S C L M k (closed f) m b l (refuse s l b ImportAlreadyStarted) w
+    barred_turn (begin g a b) e = clash e refl
+    barred_turn (read o dst) e = clash e refl
+    barred_turn (write o bs) e = record { owed = barred_owed _ _; inv = same }
+    barred_turn (truncate n) e = record { owed = barred_owed _ _; inv = same }
+    barred_turn commit e = clash e refl
+    barred_turn rollback e = clash e refl
+    barred_turn file_size e = clash e refl
+    barred_turn (import_begin a b) e = clash e refl
+    barred_turn (import_chunk o bs) e = clash e refl
+    barred_turn import_finish e = clash e refl
+    barred_turn import_cancel e = clash e refl
+    barred_turn (export o dst) e = clash e refl
+    barred_turn checksum e = clash e refl
+    barred_turn refresh e = clash e refl
+    barred_turn (refresh_step n) e = clash e refl
+
+    -- ## Every other call
+
+    pub idle_turn : Apart s → (b : Call) → Word P S C L M k b → short P S C L s l b ≡ false → Turned P S C L M k (closed f) m b l (swept P S C L M k (uses b).work? (act P S C L M k s l b)) w
     unfolding do_export do_checksum
-    idle_turn (begin g a b) z e = begin_turn g a b (importing h)
-    idle_turn (read o dst) z e = read_turn o dst e
-    idle_turn (write o bs) z e = write_turn o bs e
-    idle_turn (truncate n) z e = truncate_turn n z e
-    idle_turn commit z e = commit_turn
-    idle_turn rollback z e = record { owed = (refl, refl); inv = same }
-    idle_turn file_size z e = size_turn
-    idle_turn (import_begin a b) z e = import_begin_lem (lent_good (import_begin a b) refl e) (lent_file (import_begin a b) refl e) a b
-    idle_turn (import_chunk o bs) z e = import_chunk_lem (lent_good (import_chunk o bs) refl e) (lent_file (import_chunk o bs) refl e) o bs
-    idle_turn import_finish z e = import_finish_lem (lent_good import_finish refl e) (lent_file import_finish refl e)
-    idle_turn import_cancel z e = import_cancel_lem (lent_good import_cancel refl e) (lent_file import_cancel refl e)
-    idle_turn (export o dst) z e = record { owed = tt; inv = same }
-    idle_turn checksum z e = record { owed = tt; inv = same }
-    idle_turn refresh z e = refresh_turn (lent_good refresh refl e) (lent_file refresh refl e)
-    idle_turn (refresh_step n) z e = step_turn (lent_good (refresh_step n) refl e) (lent_file (refresh_step n) refl e) n
+    idle_turn apart (begin g a b) z e = begin_turn g a b (importing h)
+    idle_turn apart (read o dst) z e = read_turn o dst e
+    idle_turn apart (write o bs) z e = write_turn o bs e
+    idle_turn apart (truncate n) z e = truncate_turn n z e
+    idle_turn apart commit z e = commit_turn
+    idle_turn apart rollback z e = record { owed = (refl, refl); inv = same }
+    idle_turn apart file_size z e = size_turn
+    idle_turn apart (import_begin a b) z e = import_begin_lem (lent_good (import_begin a b) refl e) (lent_file (import_begin a b) refl e) a b
+    idle_turn apart (import_chunk o bs) z e = import_chunk_lem (lent_good (import_chunk o bs) refl e) (lent_file (import_chunk o bs) refl e) apart o bs
+    idle_turn apart import_finish z e = import_finish_lem (lent_good import_finish refl e) (lent_file import_finish refl e)
+    idle_turn apart import_cancel z e = import_cancel_lem (lent_good import_cancel refl e) (lent_file import_cancel refl e)
+    idle_turn apart (export o dst) z e = record { owed = tt; inv = same }
+    idle_turn apart checksum z e = record { owed = tt; inv = same }
+    idle_turn apart refresh z e = refresh_turn (lent_good refresh refl e) (lent_file refresh refl e)
+    idle_turn apart (refresh_step n) z e = step_turn (lent_good (refresh_step n) refl e) (lent_file (refresh_step n) refl e) n

@@ -100,6 +100,27 @@ module _ (P S C L M : ℕ) (k : Codec) where
     pub recs_long : record_of P S C L M k (mode_of s) * 2 ≤ length b.bufs.recs
 
   module _ (laws : Lawful S L M k) where
+    -- memory b has memory a's superblock and the bytes of its file
+    module _ (c : ℕ) (h : Superblock) (a b : List ℕ) (g : Good S L M k c h a) (first : (i : ℕ) → i < S → get_or b i 0 ≡ get_or a i 0)
+        (same : (i : ℕ) → i < h.db_base_offset + h.db_size → get_or b i 0 ≡ get_or a i 0) (long : S ≤ length b) where
+      block_near : k.decode b ≡ k.decode a
+      block_near = laws.near_block b a first
+
+      runs_near : (n : ℕ) → k.runs_in n b ≡ k.runs_in n a
+      runs_near n = laws.near_runs n b a long (omega (arith, g.base_low, g.inside, g.lent)) first
+
+      pub file_alike : file_of P S L M k b ≡ file_of P S L M k a
+      unfolding file_of
+      file_alike =
+          let F : Superblock → List ZeroExtent → List ℕ → ℕ → ℕ = λ x rs m o. cond (covers rs (o / P)) 0 (get_or m (x.db_base_offset + o) 0) in
+          let x : Superblock = k.decode a in
+          let r : k.runs_in (k.decode b).zero_extent_count b ≡ k.runs_in x.zero_extent_count a = ap (λ (y : Superblock). k.runs_in y.zero_extent_count b) block_near ∙ runs_near x.zero_extent_count in
+          let e : tabulate (k.decode b).db_size (F (k.decode b) (k.runs_in (k.decode b).zero_extent_count b) b) ≡ tabulate x.db_size (F x (k.runs_in x.zero_extent_count a) a) =
+          (λ i. tabulate (block_near i).db_size (F (block_near i) (r i) b))
+          ∙ tabulate_alike x.db_size (F x (k.runs_in x.zero_extent_count a) b) (F x (k.runs_in x.zero_extent_count a) a)
+          (λ o j. ap (λ (y : ℕ). cond (covers (k.runs_in x.zero_extent_count a) (o / P)) 0 y) (same (x.db_base_offset + o) (omega (arith, g.size_is, g.base_is)))) in
+          λ i. record { bytes = e i; base = (block_near i).db_base_offset; runs = r i }
+
     -- memory b has memory a's live part
     module _ (c : ℕ) (h : Superblock) (a b : List ℕ) (g : Good S L M k c h a) (same : (i : ℕ) → i < c * S → get_or b i 0 ≡ get_or a i 0) (long : c * S ≤ length b) where
       stable_in : S ≤ c * S
@@ -108,21 +129,24 @@ module _ (P S C L M : ℕ) (k : Codec) where
       first : (i : ℕ) → i < S → get_or b i 0 ≡ get_or a i 0
       first i j = same i (omega (arith, stable_in))
 
-      block_near : k.decode b ≡ k.decode a
-      block_near = laws.near_block b a first
+      within : (i : ℕ) → i < h.db_base_offset + h.db_size → get_or b i 0 ≡ get_or a i 0
+      within i j = same i (omega (arith, g.inside))
 
-      runs_near : (n : ℕ) → k.runs_in n b ≡ k.runs_in n a
-      runs_near n = laws.near_runs n b a (omega (arith, stable_in)) (omega (arith, stable_in, g.lent)) first
+      block_same : k.decode b ≡ k.decode a
+      block_same = block_near c h a b g first within (omega (arith, stable_in))
+
+      runs_same : (n : ℕ) → k.runs_in n b ≡ k.runs_in n a
+      runs_same n = runs_near c h a b g first within (omega (arith, stable_in)) n
 
       pub good_near : Good S L M k c h b
       good_near = record {
-        size_is = ap (λ (x : Superblock). x.db_size) block_near ∙ g.size_is;
-        base_is = ap (λ (x : Superblock). x.db_base_offset) block_near ∙ g.base_is;
-        count_is = ap (λ (x : Superblock). x.zero_extent_count) block_near ∙ g.count_is;
-        counted = ap length (runs_near h.zero_extent_count) ∙ g.counted;
+        size_is = ap (λ (x : Superblock). x.db_size) block_same ∙ g.size_is;
+        base_is = ap (λ (x : Superblock). x.db_base_offset) block_same ∙ g.base_is;
+        count_is = ap (λ (x : Superblock). x.zero_extent_count) block_same ∙ g.count_is;
+        counted = ap length (runs_same h.zero_extent_count) ∙ g.counted;
         few = g.few;
-        sorted = rw (runs_near h.zero_extent_count) g.sorted;
-        ends = rw (runs_near h.zero_extent_count) g.ends;
+        sorted = rw (runs_same h.zero_extent_count) g.sorted;
+        ends = rw (runs_same h.zero_extent_count) g.ends;
         base_low = g.base_low;
         inside = g.inside;
         range = g.range;
@@ -133,23 +157,14 @@ module _ (P S C L M : ℕ) (k : Codec) where
       }
 
       pub file_near : file_of P S L M k b ≡ file_of P S L M k a
-      unfolding file_of
-      file_near =
-          let F : Superblock → List ZeroExtent → List ℕ → ℕ → ℕ = λ x rs m o. cond (covers rs (o / P)) 0 (get_or m (x.db_base_offset + o) 0) in
-          let x : Superblock = k.decode a in
-          let r : k.runs_in (k.decode b).zero_extent_count b ≡ k.runs_in x.zero_extent_count a = ap (λ (y : Superblock). k.runs_in y.zero_extent_count b) block_near ∙ runs_near x.zero_extent_count in
-          let e : tabulate (k.decode b).db_size (F (k.decode b) (k.runs_in (k.decode b).zero_extent_count b) b) ≡ tabulate x.db_size (F x (k.runs_in x.zero_extent_count a) a) =
-          (λ i. tabulate (block_near i).db_size (F (block_near i) (r i) b))
-          ∙ tabulate_alike x.db_size (F x (k.runs_in x.zero_extent_count a) b) (F x (k.runs_in x.zero_extent_count a) a)
-          (λ o j. ap (λ (y : ℕ). cond (covers (k.runs_in x.zero_extent_count a) (o / P)) 0 y) (same (x.db_base_offset + o) (omega (arith, g.size_is, g.base_is, g.inside)))) in
-          λ i. record { bytes = e i; base = (block_near i).db_base_offset; runs = r i }
+      file_near = file_alike c h a b g first within (omega (arith, stable_in))
 
       pub image_near : image P S C L M k h b ≡ image P S C L M k h a
       unfolding image_byte
       image_near = fun_ext (λ o. split (ltb o h.db_size)
           (λ t. let j : o < h.db_size = ltb-true o h.db_size t in
           let y : get_or b (h.db_base_offset + o) 0 ≡ get_or a (h.db_base_offset + o) 0 = same (h.db_base_offset + o) (omega (arith, g.inside)) in
-          rw (image_byte, t) (λ i. cond (covers (runs_near h.zero_extent_count i) (o / P)) 0 (y i)))
+          rw (image_byte, t) (λ i. cond (covers (runs_same h.zero_extent_count i) (o / P)) 0 (y i)))
           (λ f. rw (image_byte, f)))
 
     pub inv_near : (t : Mode) (s : State) (p : Plain) (m : List ℕ) (a b : Lent) → mode_of s ≡ t → Near s a b → InvMode t s p m a → InvMode t s p m b

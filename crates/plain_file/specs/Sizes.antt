@@ -6,7 +6,7 @@ use Rattle.store.specs.Calls.{Call, Lent, Out, short, Mode, buffers_short}
 use Rattle.update.specs.Buffers.{Buffers}
 use Rattle.lending.specs.Lending.{calls}
 use Rattle.plain_file.specs.Plain.{File, Draft, Plain, closed, Told, verdict_number, file_ground, file_of, plain_step}
-use Rattle.plain_file.specs.Claim.{Owed, Nothing, Enough, Lends, leaves, Turn, told, at_begin, Word, choose, Promise}
+use Rattle.plain_file.specs.Claim.{Stays, Owed, Nothing, Enough, Lends, leaves, Turn, told, at_begin, Word, choose, Promise}
 
 -- 35 for a call
 abbrev pub short' : State → Lent → Call → Bool
@@ -40,6 +40,9 @@ leaves' = leaves 16384 65536 8 1024 18446744073709551615 real_codec
 
 abbrev pub at_begin' : Plain → Plain → List ℕ → List ℕ → List ℕ
 at_begin' = at_begin 16384 65536 8 1024 18446744073709551615 real_codec
+
+abbrev pub Stays' : File → Out → Type 0
+Stays' = Stays 16384 65536 8 1024 18446744073709551615 real_codec
 
 abbrev pub Owed' : Plain → List ℕ → Call → Lent → Out → Lent → Type 0
 Owed' = Owed 16384 65536 8 1024 18446744073709551615 real_codec

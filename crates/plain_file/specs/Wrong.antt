@@ -1,7 +1,7 @@
--- The claim has teeth: eleven wrong stores do not meet it. Each is our store, at small sizes, with something done wrong; a concrete list of calls shows the read,
--- the ground or the length that differs.
+-- The claim has teeth: twelve wrong stores do not meet it. Each is our store, at small sizes, with something done wrong; a concrete list of calls shows the read,
+-- the ground, the length or the file that differs.
 use Rattle.std.specs.Prelude.{◌≡◌, refl, ℕ, zero, suc, ◌+◌, ◌/◌, ◌≤◌, Bool, true, false, cond, ◌&&◌, List, [], ◌∷◌, ◌++◌, ltb, length, take, drop}
-use Rattle.std.proofs.Common.{arith, ltb-true}
+use Rattle.std.proofs.Common.{ap, arith, ltb-true}
 use Rattle.config.specs.Pages.{count}
 use Rattle.config.specs.declared.refusal.Refusal.TheVariants.{OffsetOverflow, ZeroExtentLimitExceeded, BufferTooShort}
 use Rattle.memory.specs.Bytes.{zeros, overwrite, resize, filled}
@@ -11,7 +11,7 @@ use Rattle.meta.specs.declared.superblock.Superblock.{Superblock}
 use Rattle.words.specs.Words.{Bytes}
 use Rattle.meta.specs.Runs.{normalized}
 use Rattle.meta.specs.Block.{magic, of_fields}
-use Rattle.runs.specs.Sets.{covers, within, merge, insert, add, around, remove}
+use Rattle.runs.specs.Sets.{covers, within, merge, insert, add, around, piece, remove}
 use Rattle.runs.specs.Flat.{runs_in as flatRuns}
 use Rattle.extents.specs.Plan.{additions, add_one, remain, plan}
 use Rattle.update.specs.declared.Overlay.{Overlay}
@@ -25,12 +25,12 @@ use Rattle.store.specs.declared.State.{State}
 use Rattle.store.specs.Answers.{Done, Read, Refused}
 use Rattle.store.specs.Codec.{stored}
 use Rattle.store.specs.Small.{small_codec, small_sum, small_decode, small_runs, small_load, small_fresh, small_lawful}
-use Rattle.store.specs.Blocks.{importing, stale, refreshing, marks, after_commit}
-use Rattle.store.specs.Calls.{Call, begin, read, write, truncate, commit, rollback, file_size, import_begin, import_chunk, import_finish, import_cancel, export, checksum, refresh, refresh_step, Lent, Out, out, number, Mode, idle, update, mode_of, short, with_mem}
+use Rattle.store.specs.Blocks.{importing, stale, refreshing, marks, after_commit, after_import_begin, after_import_chunk}
+use Rattle.store.specs.Calls.{Call, begin, read, write, truncate, commit, rollback, file_size, import_begin, import_chunk, import_finish, import_cancel, export, checksum, refresh, refresh_step, Lent, Out, out, number, Mode, idle, update, mode_of, short, with_mem, uses}
 use Rattle.store.specs.Plan.{store_plan}
-use Rattle.store.specs.Store.{refuse, working, no_overlay, image, image_bytes, over, unchanged, planned_runs, commit_over, in_update, store}
-use Rattle.store.specs.Opening.{outside, open_image, closing, open'}
-use Rattle.plain_file.specs.Plain.{closed, copied, spoil, new_run, pages_with, ends_within, grown_dirty, draft_write, draft_truncate, ground, file_ground, file_of}
+use Rattle.store.specs.Store.{refuse, working, no_overlay, image, image_bytes, over, unchanged, planned_runs, commit_over, in_update, store, restore, do_import_begin, do_import_chunk, act, swept}
+use Rattle.store.specs.Opening.{outside, open_image, closing, open', Opened}
+use Rattle.plain_file.specs.Plain.{closed, copied, spoil, new_run, pages_with, ends_within, grown_dirty, draft_write, draft_truncate, ground, file_ground, file_of, File}
 use Rattle.plain_file.specs.Claim.{Step, Lends, laid, leaves, Turn, Promise, Claim}
 use Rattle.plain_file.specs.Demand3.{meets}
 
@@ -436,3 +436,38 @@ narrow_shows h = (h (lends_self _ _) tt).0.range refl (omega arith)
 
 pub narrow_fails : Small narrow → ⊥
 narrow_fails h = let e : ◌≡◌ {A = ℕ} 0 20 = narrow_shows (promised4 narrow h narrow_calls) in omega arith
+
+-- ## A store that makes direct calls while an import is open, as 01 had it
+
+unfoldable pub unbarred : Step
+unbarred s l c = cond (short 2 24 1 3 s l c) (refuse s l c BufferTooShort) (swept 2 24 1 3 1000 small_codec (uses c).work? (act 2 24 1 3 1000 small_codec s l c))
+
+-- a fresh image has its base at the end of memory, and so has the import: the chunk comes to lie on the byte that was written
+unfoldable unbarred_calls : List Call
+unbarred_calls = import_begin 2 0 ∷ write 0 (9 ∷ []) ∷ import_chunk 0 (7 ∷ []) ∷ []
+
+abbrev made_fresh : Opened
+made_fresh = open' 2 24 1 3 1000 small_codec 0 (lent_with 4).mem
+
+abbrev fresh_lent : Lent
+fresh_lent = with_mem made_fresh.mem (lent_with 4)
+
+abbrev PromisedFresh : Step → List Call → Type 0
+PromisedFresh step cs = Promise 2 24 1 3 1000 small_codec step made_fresh.state (closed (file_of 2 24 3 1000 small_codec made_fresh.mem)) [] fresh_lent (follow step made_fresh.state fresh_lent cs)
+
+accepted0 : number made_fresh.answer ≡ 0
+unfolding count filled overwrite resize growMemory requiredPages normalized within merge insert add around remove flatRuns additions add_one remain plan put refill tabulate add_number_if span grown_numbers image_byte image_page push_run raw over_byte budget_bytes raised touch blank copy stretch patch finish grow grow_to chop tail truncated whole_page over_write written fresh look_up sized passing marked try_touch try_patch try_finish try_grow try_grow_to try_tail try_chop try_truncate try_write frame_count entry_count wiped cached short_buffers view overlay_of put_back stored small_codec small_sum small_decode small_runs small_load small_fresh importing stale refreshing marks after_commit short store_plan no_overlay image_bytes unchanged planned_runs commit_over store outside open_image closing open' copied spoil new_run pages_with ends_within grown_dirty draft_write draft_truncate ground file_ground file_of laid leaves lent_with right
+accepted0 = refl
+
+promised0 : (step : Step) → Small step → (cs : List Call) → PromisedFresh step cs
+unfolding Claim
+promised0 step h cs = h 0 (lent_with 4) (all_bytes_lem (lent_with 4).mem bytes4) long4 accepted0 (follow step made_fresh.state fresh_lent cs)
+
+unbarred_shows : PromisedFresh unbarred unbarred_calls → ◌≡◌ {A = List ℕ} (7 ∷ []) (9 ∷ [])
+unfolding count filled overwrite resize growMemory requiredPages normalized within merge insert add around remove flatRuns additions add_one remain plan put refill tabulate add_number_if span grown_numbers image_byte image_page push_run raw over_byte budget_bytes raised touch blank copy stretch patch finish grow grow_to chop tail truncated whole_page over_write written fresh look_up sized passing marked try_touch try_patch try_finish try_grow try_grow_to try_tail try_chop try_truncate try_write frame_count entry_count wiped cached short_buffers view overlay_of put_back stored small_codec small_sum small_decode small_runs small_load small_fresh importing stale refreshing marks after_commit short store_plan no_overlay image_bytes unchanged planned_runs commit_over store outside open_image closing open' copied spoil new_run pages_with ends_within grown_dirty draft_write draft_truncate ground file_ground file_of laid leaves lent_with right piece restore do_import_begin do_import_chunk after_import_begin after_import_chunk unbarred_calls unbarred
+unbarred_shows h = ap (λ (f : File). f.bytes) (((h (lends_self _ _) tt).2 (lends_self _ _) tt).2 (lends_self _ _) tt).0
+
+pub unbarred_fails : Small unbarred → ⊥
+unbarred_fails h =
+    let e : ◌≡◌ {A = List ℕ} (7 ∷ []) (9 ∷ []) = unbarred_shows (promised0 unbarred h unbarred_calls) in
+    let z : ◌≡◌ {A = ℕ} 7 9 = cc in omega arith

@@ -7,7 +7,7 @@ use native.Mathlib.Omega.{arith}
 use Rattle.std.proofs.Math.Bool.{true, false, cond}
 use Rattle.config.specs.Pages.{count}
 use Rattle.config.specs.declared.refusal.Refusal.{Refusal}
-use Rattle.config.specs.declared.refusal.Refusal.TheVariants.{OffsetOverflow, ZeroExtentLimitExceeded, BufferTooShort}
+use Rattle.config.specs.declared.refusal.Refusal.TheVariants.{ImportAlreadyStarted, OffsetOverflow, ZeroExtentLimitExceeded, BufferTooShort}
 use Rattle.memory.specs.Bytes.{zeros}
 use Rattle.memory.specs.Growth.{grow_to}
 use Rattle.memory.specs.Growth.{Growth}
@@ -34,9 +34,10 @@ use Rattle.store.specs.Answers.{Done, Refused}
 use Rattle.store.specs.Codec.{Codec, real_codec, sealed, stored}
 use Rattle.store.specs.Blocks.{after_commit}
 use Rattle.store.specs.Cases.{no_or}
+use Rattle.store.proofs.WaysOut.{store_short, store_barred, store_done}
 use Rattle.store.specs.Calls.{write, truncate, commit, Lent, out, Mode, idle, update, mode_if, mode_of, buffers_short, short}
 use Rattle.store.specs.Plan.{required}
-use Rattle.store.specs.Store.{budget_of, ended, over, unchanged, planned_runs, publish, commit_over, direct, change, in_update, working, answer_of, swept, refuse, store, act, write_pages}
+use Rattle.store.specs.Store.{budget_of, barred, ended, over, unchanged, planned_runs, publish, commit_over, direct, change, in_update, working, answer_of, swept, write_pages}
 use Rattle.store.specs.Store.{settle as settlePlan}
 use Rattle.commit.specs.Held.{Held}
 use Rattle.transfer.specs.OnMemory.{lent}
@@ -238,11 +239,11 @@ module _ (s : State) (m w : List ℕ) (b : Buffers) (h : short 16384 65536 8 102
       pub write_leaves : Held v' b'.frames b'.numbers b'.recs w
       write_leaves = room_left v b long_buffers (max v.dirty 0) (writing x) (omega (arith, held_dirty)) write_fit v' b' a written w long_work
 
-      pub write_is : settled s (lent m b' w) v' a (mode_of s) ≡ calls s (lent m b w) (write o bs)
-      unfolding store short real_codec
-      write_is =
+      pub write_is : barred s (write o bs) ≡ false → settled s (lent m b' w) v' a (mode_of s) ≡ calls s (lent m b w) (write o bs)
+      unfolding short real_codec
+      write_is free =
           ap (swept 16384 65536 8 1024 most real_codec true) (settled_is s m w b writing (λ u. 0) v' b' a (mode_of s) long_buffers (omega (arith, held_dirty)) write_fit written)
-          ∙ sym (ap (λ (t : Bool). cond t (refuse s (lent m b w) (write o bs) BufferTooShort) (swept 16384 65536 8 1024 most real_codec true (act 16384 65536 8 1024 most real_codec s (lent m b w) (write o bs)))) h)
+          ∙ sym (store_done 16384 65536 8 1024 most real_codec s (lent m b w) (write o bs) h free)
 
     -- ## Truncations
 
@@ -268,22 +269,32 @@ module _ (s : State) (m w : List ℕ) (b : Buffers) (h : short 16384 65536 8 102
       pub truncate_leaves : Held v' b'.frames b'.numbers b'.recs w
       truncate_leaves = room_left v b long_buffers (max v.dirty (cut_reach x)) (cutting x) cut_busy cut_fit v' b' a cut w long_work
 
-      pub truncate_is : settled s (lent m b' w) v' a (mode_of s) ≡ calls s (lent m b w) (truncate n)
-      unfolding store short real_codec
-      truncate_is =
+      pub truncate_is : barred s (truncate n) ≡ false → settled s (lent m b' w) v' a (mode_of s) ≡ calls s (lent m b w) (truncate n)
+      unfolding short real_codec
+      truncate_is free =
           ap (swept 16384 65536 8 1024 most real_codec true) (settled_is s m w b cutting cut_reach v' b' a (mode_of s) long_buffers cut_busy cut_fit cut)
-          ∙ sym (ap (λ (t : Bool). cond t (refuse s (lent m b w) (truncate n) BufferTooShort) (swept 16384 65536 8 1024 most real_codec true (act 16384 65536 8 1024 most real_codec s (lent m b w) (truncate n)))) h)
+          ∙ sym (store_done 16384 65536 8 1024 most real_codec s (lent m b w) (truncate n) h free)
 
--- ## 35
+-- ## 35, and 10 right after it
 
-module _ (s : State) (l : Lent) (h : short 16384 65536 8 1024 s l commit ≡ true) where
-  pub write_short : (o : ℕ) (bs : List ℕ) → out s l (Refused BufferTooShort) [] ≡ calls s l (write o bs)
-  unfolding store short
-  write_short o bs = rw h
+module _ (s : State) (l : Lent) where
+  module _ (h : short 16384 65536 8 1024 s l commit ≡ true) where
+    pub write_short : (o : ℕ) (bs : List ℕ) → calls s l (write o bs) ≡ out s l (Refused BufferTooShort) []
+    unfolding short
+    write_short o bs = store_short 16384 65536 8 1024 most real_codec s l (write o bs) h
 
-  pub truncate_short : (n : ℕ) → out s l (Refused BufferTooShort) [] ≡ calls s l (truncate n)
-  unfolding store short
-  truncate_short n = rw h
+    pub truncate_short : (n : ℕ) → calls s l (truncate n) ≡ out s l (Refused BufferTooShort) []
+    unfolding short
+    truncate_short n = store_short 16384 65536 8 1024 most real_codec s l (truncate n) h
+
+  module _ (h : short 16384 65536 8 1024 s l commit ≡ false) where
+    pub write_barred : (o : ℕ) (bs : List ℕ) → barred s (write o bs) ≡ true → calls s l (write o bs) ≡ out s l (Refused ImportAlreadyStarted) []
+    unfolding short
+    write_barred o bs b = store_barred 16384 65536 8 1024 most real_codec s l (write o bs) h b
+
+    pub truncate_barred : (n : ℕ) → barred s (truncate n) ≡ true → calls s l (truncate n) ≡ out s l (Refused ImportAlreadyStarted) []
+    unfolding short
+    truncate_barred n b = store_barred 16384 65536 8 1024 most real_codec s l (truncate n) h b
 
 -- ## The code's ways out
 

@@ -2,10 +2,11 @@
 // The lent slices are parameters of their own, as `update::Stored` says.
 #![tactic(auto)]
 
-ghost use Rattle.std.specs.Prelude.{◌≡◌, []};
+ghost use Rattle.std.specs.Prelude.{◌≡◌, ◌&&◌, []};
 ghost use Rattle.update.specs.Laid.{bufs};
 ghost use Rattle.store.specs.Answers.{done};
 ghost use Rattle.store.specs.Calls.{out, mode_of};
+ghost use Rattle.store.specs.Store.{import_bars};
 ghost use Rattle.commit.specs.Held.{Held};
 ghost use Rattle.transfer.specs.OnMemory.{lent};
 ghost use Rattle.settling.specs.Changing.{overlay_now, settled};
@@ -22,6 +23,13 @@ pub fn overlay_of(s: &State) -> Overlay
         return s.overlay;
     }
     Overlay::new(s.block.db_size, lending::budget_of(false, 0, 0))
+}
+
+// It `changes` the file, would be direct, and an import is open.
+pub fn import_bars(s: &State, changes: bool) -> bool
+    ensures { result ≡ (changes && import_bars s.now) }
+{
+    changes && !s.updating && blocks::is_importing(s.block)
 }
 
 // What becomes of a change that left the overlay `o`: in an update it stays in the buffers; a direct one is committed, or refused it leaves memory unchanged

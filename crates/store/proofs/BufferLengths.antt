@@ -36,6 +36,7 @@ use Rattle.store.specs.Plan.{required}
 use Rattle.store.specs.Store.{budget_of, image, publish, settle, unchanged, planned_runs, commit_over, direct, change, do_begin, do_read, do_commit, do_rollback, restore, do_import_begin, place_chunk, do_import_chunk, do_import_finish, do_import_cancel, do_export, do_checksum, do_refresh, refresh_from, do_refresh_step, alone, act, swept, store}
 use Rattle.store.specs.Cases.{by_test, no_or}
 use Rattle.store.specs.Facts.{SameLengths}
+use Rattle.store.proofs.WaysOut.{store_cases}
 
 same : (l : Buffers) → SameLengths l l
 same l = record { frames = refl; numbers = refl; clean = refl; recs = refl }
@@ -273,8 +274,7 @@ module _ (P S C L M : ℕ) (k : Codec) (pos : 0 < P) where
 
     -- for any state, any bytes and any call
     pub buffer_lengths : (c : Call) → SameLengths l.bufs (store P S C L M k s l c).lent.bufs
-    unfolding store
-    buffer_lengths c = by_test (Q l) (short P S C L s l c) _ _ (λ t. same l.bufs) (λ f. swept_same (uses c).work? (act P S C L M k s l c) (act_same c f))
+    buffer_lengths c = store_cases P S C L M k s l c (Q l) (λ t. same l.bufs) (λ f b. same l.bufs) (λ f b. swept_same (uses c).work? (act P S C L M k s l c) (act_same c f))
 
     -- ## What a call leaves in them is not short
 
@@ -428,8 +428,7 @@ module _ (P S C L M : ℕ) (k : Codec) (pos : 0 < P) where
     -- slices that are long enough for an update are so after any call
     pub buffers_lent : buffers_short P S C L (mode_of s) l.bufs ≡ false → (c : Call)
         → buffers_short P S C L (mode_of (store P S C L M k s l c).state) (store P S C L M k s l c).lent.bufs ≡ false
-    unfolding store
-    buffers_lent now c = by_test U (short P S C L s l c) _ _ (λ t. now) (λ f. swept_long (uses c).work? (act P S C L M k s l c) (act_long now c))
+    buffers_lent now c = store_cases P S C L M k s l c U (λ t. now) (λ f b. now) (λ f b. swept_long (uses c).work? (act P S C L M k s l c) (act_long now c))
 
     alike_short : (t : Mode) (x y : Buffers) → SameLengths x y → buffers_short P S C L t x ≡ buffers_short P S C L t y
     unfolding short_buffers frame_count
@@ -555,5 +554,4 @@ module _ (P S C L M : ℕ) (k : Codec) (spos : 0 < S) (s : State) (l : Lent) (h 
 
   -- for any state whose count is lent, any bytes and any call: the same memory is long enough for the next call
   pub count_lent : (c : Call) → (store P S C L M k s l c).state.count.0 * S ≤ length l.mem
-  unfolding store
-  count_lent c = by_test T (short P S C L s l c) _ _ (λ t. h) (λ f. swept_count (uses c).work? (act P S C L M k s l c) (act_count c))
+  count_lent c = store_cases P S C L M k s l c T (λ t. h) (λ f b. h) (λ f b. swept_count (uses c).work? (act P S C L M k s l c) (act_count c))

@@ -1,10 +1,12 @@
+pub mod WaysOut
 pub mod BufferLengths
 pub mod ClosingLaws
 pub mod CommitLaws
 pub mod MemoryLaws
-pub mod OnlyShort
+pub mod Grounds
 pub mod OpeningLaws
 pub mod RestoreLaws
 pub mod StoreLaws
 pub mod BlockLaws
 pub mod PlanLaws
+pub mod ImportLaws

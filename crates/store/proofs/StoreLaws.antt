@@ -1,5 +1,5 @@
--- Laws of the calls that hold for any state and any bytes: 35 changes nothing, memory keeps its length, a refused commit and a refused direct call leave memory as
--- it was and zeros in the buffers, an accepted commit leaves the file that its update showed, and a read is full where it is to be.
+-- Laws of the calls that hold for any state and any bytes: memory keeps its length, a refused commit, and a direct call that is refused behind 35
+-- and 10, leave memory as it was and zeros in the buffers, an accepted commit leaves the file that its update showed, and a read is full where it is to be.
 use Rattle.std.specs.Prelude.{◌≡◌, Bool, true, false, not, ◌&&◌, ltb, leb, take, drop, get_or, Ok, Err}
 use Rattle.std.proofs.Math.Path.{refl, ap}
 use Rattle.std.proofs.Common.{◌∙◌, arith, le-leb, ne_eqb, eqb-true}
@@ -10,7 +10,6 @@ use Rattle.std.proofs.Math.Dec.{eqb}
 use Rattle.std.proofs.Math.ListN.{length}
 use Rattle.std.proofs.lemmas.Bool.{lt-leb}
 use Rattle.config.specs.Pages.{count}
-use Rattle.config.specs.declared.refusal.Refusal.TheVariants.{BufferTooShort}
 use Rattle.memory.specs.Bytes.{zeros}
 use Rattle.memory.specs.Laws.{split, length-overwrite}
 use Rattle.memory.specs.Growth.{grow_to, required as requiredPages, stable}
@@ -27,18 +26,19 @@ use Rattle.update.specs.Changes.{Like}
 use Rattle.update.specs.Refused.{Weak}
 use Rattle.store.specs.declared.State.{State}
 use Rattle.store.specs.Answers.{Answer}
-use Rattle.store.specs.Answers.{Done, Refused}
+use Rattle.store.specs.Answers.{Done}
 use Rattle.store.specs.Codec.{Codec}
 use Rattle.store.specs.Blocks.{importing, refreshing}
-use Rattle.store.specs.Calls.{Call, begin, read, write, truncate, commit, rollback, file_size, import_begin, import_chunk, import_finish, import_cancel, export, checksum, refresh, refresh_step, Lent, Out, out, uses, lent_bytes, Mode, idle, update, mode_of, short}
+use Rattle.store.specs.Calls.{Call, begin, read, write, truncate, commit, rollback, file_size, import_begin, import_chunk, import_finish, import_cancel, export, checksum, refresh, refresh_step, Lent, Out, out, uses, Mode, idle, update, mode_of}
 use Rattle.store.specs.Plan.{required}
-use Rattle.store.specs.Store.{budget_of, refuse, ended, image, runs_of, over, publish, settle, unchanged, planned_runs, commit_over, direct, change, do_begin, do_read, full, do_commit, do_rollback, restore, do_import_begin, place_chunk, do_import_chunk, do_import_finish, do_import_cancel, do_export, do_checksum, do_refresh, refresh_from, do_refresh_step, alone, act, swept, store}
+use Rattle.store.specs.Store.{budget_of, ended, image, runs_of, over, publish, settle, unchanged, planned_runs, commit_over, direct, change, do_begin, do_read, full, do_commit, do_rollback, restore, do_import_begin, place_chunk, do_import_chunk, do_import_finish, do_import_cancel, do_export, do_checksum, do_refresh, refresh_from, do_refresh_step, alone, act, swept, store}
 use Rattle.store.specs.Lawful.{Lawful, Good}
 use Rattle.store.proofs.MemoryLaws.{pages-length, stored_long}
 use Rattle.store.specs.Facts.{Reaches}
 use Rattle.store.proofs.CommitLaws.{new_block, flushed, after, commit_good, commit_image}
 use Rattle.store.specs.Cases.{by_test}
 use Rattle.store.specs.Facts.{Ends}
+use Rattle.store.proofs.WaysOut.{store_cases}
 
 grow-length : (S n end : ℕ) (m : List ℕ) → length (grow_to S n end m).mem ≡ length m
 unfolding grow_to
@@ -56,16 +56,6 @@ required_page P base (n ∷ ns) end q h = split (eqb q n)
     (λ f. let r : base + (q + 1) * P ≤ required P base ns end = required_page P base ns end q (rw f at h) in omega arith)
 
 module _ (P S C L M : ℕ) (k : Codec) where
-  -- ## 35
-
-  pub store_short : (s : State) (l : Lent) (c : Call) → short P S C L s l c ≡ true → store P S C L M k s l c ≡ out s l (Refused BufferTooShort) (lent_bytes c)
-  unfolding store
-  store_short s l c e = ap (λ (z : Bool). cond z (refuse s l c BufferTooShort) (swept P S C L M k (uses c).work? (act P S C L M k s l c))) e
-
-  pub store_done : (s : State) (l : Lent) (c : Call) → short P S C L s l c ≡ false → store P S C L M k s l c ≡ swept P S C L M k (uses c).work? (act P S C L M k s l c)
-  unfolding store
-  store_done s l c e = ap (λ (z : Bool). cond z (refuse s l c BufferTooShort) (swept P S C L M k (uses c).work? (act P S C L M k s l c))) e
-
   -- ## Reads
 
   -- full exactly when it is empty or ends at or before the size
@@ -250,5 +240,4 @@ module _ (P S C L M : ℕ) (k : Codec) where
 
   -- for any state, any bytes and any call
   pub memory-length : (s : State) (l : Lent) (c : Call) → length (store P S C L M k s l c).lent.mem ≡ length l.mem
-  unfolding store
-  memory-length s l c = by_test (Long l) (short P S C L s l c) _ _ (λ t. refl) (λ f. swept_long (uses c).work? l (act P S C L M k s l c) (act_long s l c))
+  memory-length s l c = store_cases P S C L M k s l c (Long l) (λ t. refl) (λ f b. refl) (λ f b. swept_long (uses c).work? l (act P S C L M k s l c) (act_long s l c))

@@ -124,7 +124,7 @@ module _ (P S C L : ℕ) where
       || (((uses c).bufs? && buffers_short (mode_of s) l.bufs)
       || ((uses c).work? && ltb (length l.work) ((L + 1 + 2 * frame_count P l.bufs) * 2)))
 
--- 01: "The work list is zeros after every call but 35."
+-- 01: "The work list is zeros after every call but 35."; by 02, W-203, and but a direct call's 10
 abbrev pub cleared : Lent → Lent
 cleared l = record { mem = l.mem; bufs = l.bufs; work = zeros (length l.work) }
 

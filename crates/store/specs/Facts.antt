@@ -1,10 +1,12 @@
--- What the laws of `proofs/` say of a call, of growth and of an opening.
+-- What the laws of `proofs/` say of a call, of growth, of an opening and of an open import.
 use Rattle.std.specs.Prelude.{◌≡◌, ℕ, ◌+◌, ◌*◌, ◌≤◌, ◌<◌, true, false, List, length, get_or}
 use Rattle.meta.specs.declared.superblock.Superblock.{Superblock}
 use Rattle.update.specs.Buffers.{Buffers, wiped}
 use Rattle.store.specs.Answers.{Done}
 use Rattle.store.specs.Blocks.{importing, Keeps}
-use Rattle.store.specs.Calls.{Lent, Out, number}
+use Rattle.store.specs.declared.State.{State}
+use Rattle.store.specs.Calls.{Call, Lent, Out, number}
+use Rattle.store.specs.Store.{changes}
 use Rattle.store.specs.Opening.{Opened}
 
 -- 01: "A commit refused by 31, 20 or 32 (in this order) ends the update with memory unchanged; its frames, page numbers, clean frames and record, whole,
@@ -41,3 +43,17 @@ pub record SameLengths (l x : Buffers) : Type 0 where
   pub numbers : length x.numbers ≡ length l.numbers
   pub clean : length x.clean ≡ length l.clean
   pub recs : length x.recs ≡ length l.recs
+
+-- 02, W-203: "A direct write or truncation during an import"
+pub record Barred (s : State) (c : Call) : Type 0 where
+  pub direct : s.updating ≡ false
+  pub importing_is : importing s.block ≡ true
+  pub changes_is : changes c ≡ true
+
+-- an import is open: no update is, and the import begins at the image's end or behind it
+pub record Beside (s : State) : Type 0 where
+  pub alone : s.updating ≡ false
+  pub past : s.block.db_base_offset + s.block.db_size ≤ s.block.import_base_offset
+
+abbrev pub Apart : State → Type 0
+Apart s = importing s.block ≡ true → Beside s

@@ -1,5 +1,5 @@
--- Each call of the store, for any state and any bytes: the answer, the state, memory and every lent slice at the end. 35 first, then 01's tests in
--- 01's order, then the effects in the source's order.
+-- Each call of the store, for any state and any bytes: the answer, the state, memory and every lent slice at the end. 35 first, then 10 of a
+-- direct call while an import is open (02, W-203), then 01's tests in 01's order, then the effects in the source's order.
 use Rattle.std.specs.Prelude.{ℕ, ◌+◌, ◌-◌, ◌*◌, max, min, Bool, true, false, not, cond, ◌&&◌, ◌||◌, List, [], ◌∷◌, ltb, leb, eqb, length, take, drop, Ok, Err}
 use Rattle.config.specs.Pages.{count}
 use Rattle.config.specs.declared.refusal.Refusal.{Refusal}
@@ -31,6 +31,10 @@ use Rattle.store.specs.Plan.{store_plan, required}
 abbrev pub resting : ℕ → Superblock → Overlay → State
 resting c b v = record { count = stable c; block = b; updating = false; overlay = v }
 
+-- by its parts
+abbrev pub made : ℕ → Superblock → Bool → Overlay → State
+made c b u v = record { count = stable c; block = b; updating = u; overlay = v }
+
 abbrev pub working : ℕ → Superblock → Overlay → State
 working c b v = record { count = stable c; block = b; updating = true; overlay = v }
 
@@ -41,6 +45,31 @@ onward s c b = record { count = stable c; block = b; updating = s.updating; over
 -- no budget is passed yet
 abbrev pub budget_of : Bool → ℕ → ℕ → Budget
 budget_of limited pages bytes = record { limited = limited; max_pages = pages; max_bytes = bytes; passed = 0; peak_pages = 0; peak_bytes = 0 }
+
+-- 02, W-203: "A direct write or truncation during an import .. refuses with 10"; "an empty direct write is still accepted"
+abbrev pub changes : Call → Bool
+changes (begin g p b) = false
+changes (read o d) = false
+changes (write o bs) = not (eqb (length bs) 0)
+changes (truncate n) = true
+changes commit = false
+changes rollback = false
+changes file_size = false
+changes (import_begin t e) = false
+changes (import_chunk o bs) = false
+changes import_finish = false
+changes import_cancel = false
+changes (export o d) = false
+changes checksum = false
+changes refresh = false
+changes (refresh_step n) = false
+
+-- a write or a truncation would be direct, and an import is open
+abbrev pub import_bars : State → Bool
+import_bars s = not s.updating && importing s.block
+
+abbrev pub barred : State → Call → Bool
+barred s c = changes c && import_bars s
 
 -- a refused call: what it was lent to fill stays
 abbrev pub refuse : State → Lent → Call → Refusal → Out
@@ -116,7 +145,8 @@ module _ (P S C L M : ℕ) (k : Codec) where
   in_update s l v reach t =
       out (working s.count.0 s.block (overlay_of P C v.base_size (left t))) (with_buffers (put_back P C v (max v.dirty reach) (left t) l.bufs) l) (answer_of t) []
 
-  -- 01: "A direct call, accepted, is a begin, itself and a commit"; "A direct call refused by any but 35 leaves memory unchanged and zeros there too."
+  -- 01: "A direct call, accepted, is a begin, itself and a commit"; "A direct call refused by any but 35 leaves memory unchanged and zeros there too.", by 02, W-203, any but
+  -- 35 and 10
   abbrev pub direct : State → Lent → Tried → Out
   direct s l (accepted w) = commit_over false s l s.block.db_size w
   direct s l (refused r w) = over s l (Refused r)
@@ -272,9 +302,13 @@ module _ (P S C L M : ℕ) (k : Codec) where
   swept true x = out x.state (cleared x.lent) x.answer x.filled
   swept false x = x
 
-  -- 01: 35 "tested first everywhere, of what the call is lent; .. nothing changes"; "The work list is zeros after every call but 35."
+  -- 01: 35 "tested first everywhere, of what the call is lent; .. nothing changes"; "The work list is zeros after every call but 35." 02, W-203: a
+  -- direct call while an import is open "refuses with 10, right after 35 and, like 35, with nothing changed, lent frames and lists included"
   unfoldable pub store : State → Lent → Call → Out
-  store s l c = cond (short P S C L s l c) (refuse s l c BufferTooShort) (swept (uses c).work? (act s l c))
+  store s l c =
+      cond (short P S C L s l c) (refuse s l c BufferTooShort)
+      (cond (barred s c) (refuse s l c ImportAlreadyStarted)
+      (swept (uses c).work? (act s l c)))
 
   -- 01: "A dirty page is shown to callers as the part of the lent frames that holds it, empty if it is not dirty"; without an update none is
   abbrev pub dirty_in : Mode → List ℕ → List ℕ → ℕ → List ℕ

@@ -1,9 +1,9 @@
 -- The store's definition at the calls that are lent memory alone: one law for each way out.
-use Rattle.std.specs.Prelude.{◌≡◌, Bool, true, false, ◌&&◌, ◌||◌, leb, take, drop, Result, Ok, Err}
+use Rattle.std.specs.Prelude.{◌≡◌, Bool, true, false, ◌&&◌, ◌||◌, leb, take, drop, Result, Ok, Err, cond}
 use Rattle.std.proofs.Math.Path.{refl, ap}
 use Rattle.std.proofs.Common.{sym, ◌∙◌, arith, true≢false, ext_get_or, lt-ltb, le-ltb, eq-eqb, ne_eqb, leb-true, leb-false}
 use Prim.Native.Nat.{ℕ, ◌+◌, ◌-◌, ◌*◌, ◌≤◌, ◌<◌, max, min}
-use Rattle.std.proofs.Math.Bool.{not, cond}
+use Rattle.std.proofs.Math.Bool.{not}
 use mathlib.Core.List.{List, []}
 use Rattle.std.proofs.Math.Dec.{ltb, eqb}
 use Rattle.std.proofs.Math.ListN.{length}
@@ -27,9 +27,10 @@ use Rattle.store.specs.Answers.{Done, Exported, Checksum, Refreshed, Refused, an
 use Rattle.store.specs.Codec.{real_codec, sealed, stored, real_sealed, real_stored}
 use Rattle.store.specs.Blocks.{importing, refreshing, after_import_begin, after_import_cancel, after_import_finish, after_refresh, after_refresh_step}
 use Rattle.store.specs.Calls.{Call, begin, read, write, truncate, commit, rollback, file_size, import_begin, import_chunk, import_finish, import_cancel, export, checksum, refresh, refresh_step, Lent, Out, out, Uses, uses, these, lent_bytes, mode_if, mode_of, buffers_short, short}
-use Rattle.store.specs.Store.{store, act, alone, refuse, swept, onward, restore, image_bytes, image_sum, do_import_begin, do_import_chunk, do_import_finish, do_import_cancel, do_export, do_checksum, do_refresh, do_refresh_step, refresh_from, place_chunk, progress}
+use Rattle.store.specs.Store.{store, act, alone, swept, onward, restore, image_bytes, image_sum, do_import_begin, do_import_chunk, do_import_finish, do_import_cancel, do_export, do_checksum, do_refresh, do_refresh_step, refresh_from, place_chunk, progress}
 use Rattle.transfer.specs.OnMemory.{lent, OnMemory}
 use Rattle.transfer.specs.Steps.{admission, admission_by, import_admission, import_admission_by, StepOut, step_out, step, BlockStored, block_stored, restore_to, place_to, chunk_reach, chunk_to, refresh_to, refresh_step_to}
+use Rattle.store.proofs.WaysOut.{work_free, store_short, store_done}
 
 abbrev pub most : ℕ
 most = 18446744073709551615
@@ -86,20 +87,21 @@ act_is s l rollback u = absurd (true≢false (ap (λ (z : Uses). z.mem?) (sym u)
 act_is s l file_size u = absurd (true≢false (ap (λ (z : Uses). z.mem?) (sym u)))
 
 module _ (s : State) (m : List ℕ) (b : Buffers) (w : List ℕ) (c : Call) (only : uses c ≡ these true false false) where
-  store_is : store 16384 65536 8 1024 most real_codec s (lent m b w) c
-      ≡ cond (ltb (length m) (s.count.0 * 65536)) (refuse s (lent m b w) c BufferTooShort) (act 16384 65536 8 1024 most real_codec s (lent m b w) c)
-  unfolding store short
-  store_is =
-      ap (λ (u : Uses). cond ((u.mem? && ltb (length m) (s.count.0 * 65536)) || ((u.bufs? && buffers_short 16384 65536 8 1024 (mode_of s) b) || (u.work? && ltb (length w) ((1024 + 1 + 2 * frame_count 16384 b) * 2))))
-      (refuse s (lent m b w) c BufferTooShort) (swept 16384 65536 8 1024 most real_codec u.work? (act 16384 65536 8 1024 most real_codec s (lent m b w) c))) only
-      ∙ ap (λ (t : Bool). cond t (refuse s (lent m b w) c BufferTooShort) (act 16384 65536 8 1024 most real_codec s (lent m b w) c)) (or_none (ltb (length m) (s.count.0 * 65536)))
+  short_is : short 16384 65536 8 1024 s (lent m b w) c ≡ ltb (length m) (s.count.0 * 65536)
+  unfolding short
+  short_is =
+      ap (λ (u : Uses). (u.mem? && ltb (length m) (s.count.0 * 65536)) || ((u.bufs? && buffers_short 16384 65536 8 1024 (mode_of s) b) || (u.work? && ltb (length w) ((1024 + 1 + 2 * frame_count 16384 b) * 2)))) only
+      ∙ or_none (ltb (length m) (s.count.0 * 65536))
 
   pub short_refused : length m < s.count.0 * 65536 → store 16384 65536 8 1024 most real_codec s (lent m b w) c ≡ out s (lent m b w) (Refused BufferTooShort) (lent_bytes c)
-  short_refused h = store_is ∙ if_true _ _ _ (lt-ltb _ _ h)
+  short_refused h = store_short 16384 65536 8 1024 most real_codec s (lent m b w) c (short_is ∙ lt-ltb _ _ h)
 
   module _ (h : s.count.0 * 65536 ≤ length m) where
     acts : store 16384 65536 8 1024 most real_codec s (lent m b w) c ≡ alone 16384 65536 8 1024 most real_codec s (lent m b w) c (doing s (lent m b w) c) (mode_of s)
-    acts = store_is ∙ if_false _ _ _ (le-ltb _ _ h) ∙ act_is s (lent m b w) c only
+    acts =
+        store_done 16384 65536 8 1024 most real_codec s (lent m b w) c (short_is ∙ le-ltb _ _ h) (work_free s c (ap (λ (u : Uses). u.work?) only))
+        ∙ ap (λ (u : Uses). swept 16384 65536 8 1024 most real_codec u.work? (act 16384 65536 8 1024 most real_codec s (lent m b w) c)) only
+        ∙ act_is s (lent m b w) c only
 
     pub updating_refused : s.updating ≡ true → store 16384 65536 8 1024 most real_codec s (lent m b w) c ≡ out s (lent m b w) (Refused UpdateInProgress) (lent_bytes c)
     updating_refused u = acts ∙ ap (λ (t : Bool). alone 16384 65536 8 1024 most real_codec s (lent m b w) c (doing s (lent m b w) c) (mode_if t s.overlay)) u

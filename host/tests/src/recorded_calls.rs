@@ -20,6 +20,7 @@ const HEADER: &str = "\
 # A list begins with `open SEED`, the seed of a memory. Each line is a call with its numbers (of bytes: seed, start,
 # length), then the refusal's number or 0, the four values, and digests of the bytes read, if any, and of memory in use,
 # `=` where it is as after the call before. An image that is opened in the middle of an import is as after `cancel_import`.
+# Direct writes and truncations in an import, but for empty writes, are left out.
 ";
 
 pub fn path() -> PathBuf {
@@ -61,7 +62,7 @@ fn draw(index: u64) -> List {
     while (calls.len() as u64) < CALLS {
         let act = chooser.next(&run.seen());
         let Act::Call(call) = act else { continue };
-        if matches!(call, Call::DirtyPage(_)) {
+        if matches!(call, Call::DirtyPage(_)) || run.leaves_out(&call) {
             continue;
         }
         let outcome = run.act(&act).expect("the same everywhere").expect("a call");

@@ -1,17 +1,19 @@
 //! States that no call leaves, with slices of any length: every call ends, and touches nothing that it has no business
 //! with.
 
+use conformance::block::IMPORTING;
 use conformance::prng::{mix, Prng};
 use conformance::store::every::every_call;
-use conformance::store::library::ask;
+use conformance::store::library::{ask, work_noise};
 use conformance::store::place::{length, near};
-use conformance::store::{Bytes, Call, PAGE_LEN};
+use conformance::store::{Buffers, Bytes, Call, Library, Room, PAGE_LEN};
 use yuharopu::raw::{self, Lent};
 
 const STABLE_PAGE: usize = 65_536;
 const GUARD: usize = 64;
 /// Places in the state.
 const SIZE: usize = 4;
+const FLAGS: usize = 7;
 const REFRESH_OFFSET: usize = 13;
 const UPDATING: usize = 22;
 const DIRTY: usize = 25;
@@ -73,6 +75,10 @@ fn state_bytes(prng: &mut Prng, call: &Call, mem_pages: u64) -> Vec<u8> {
         numbers[DIRTY] = prng.below(4);
         numbers[RECORDED] = prng.below(5);
     }
+    if prng.below(2) == 0 {
+        // mostly direct
+        numbers[UPDATING] = prng.pick(&[0, 0, 1]);
+    }
     // these hash the whole file, which has to end
     if matches!(
         call,
@@ -129,6 +135,24 @@ impl Slices {
         ask(call, state, &mut lent, dst, answer)
     }
 
+    /// 10 is due unless a slice is too short: the call is direct, and an import is open.
+    fn is_barred(&self, call: &Call) -> bool {
+        let state = &self.state.before[GUARD..];
+        let number = |place: usize| {
+            let bytes = &state[8 * place..8 * (place + 1)];
+            u64::from_le_bytes(bytes.try_into().expect("eight bytes"))
+        };
+        call.is_change() && number(UPDATING) == 0 && number(FLAGS) & IMPORTING != 0
+    }
+
+    /// The same state in the library's own form, as a begin leaves it, which is refused by 10 too.
+    fn is_state_kept(&self) -> bool {
+        let (mut state, mut answer) = (self.state.before.clone(), [0; 4]);
+        let end = state.len() - GUARD;
+        let number = raw::begin_update(&mut state[GUARD..end], 0, 0, 0, &mut answer);
+        number == 10 && state == self.state.all
+    }
+
     fn check(&self, call: &Call, number: u64) -> Result<(), &'static str> {
         let (changing, importing) = match call {
             Call::WriteAt { .. } | Call::Truncate(_) | Call::CommitUpdate => (true, true),
@@ -148,19 +172,25 @@ impl Slices {
             Call::FileSize | Call::ExportChunk { .. } | Call::Checksum | Call::DirtyPage(_)
         );
         let short = number == 35;
+        // "like 35, with nothing changed, lent frames and lists included"
+        let barred = self.is_barred(call);
+        let stays = short || barred;
+        let ten = changing && number == 10;
         fn may<T: Copy + PartialEq>(slice: &Guarded<T>, change: bool) -> bool {
             slice.is_guarded() && (change || slice.is_same())
         }
         let rules = [
             (may(&self.state, !looks && !short), "state"),
-            (may(&self.mem, importing && !short), "memory"),
-            (may(&self.frames, ends && !short), "frames"),
-            (may(&self.numbers, ends && !short), "numbers"),
-            (may(&self.clean, (ends || reads) && !short), "clean"),
-            (may(&self.record, ends && !short), "record"),
-            (may(&self.work, changing && !short), "work"),
+            (may(&self.mem, importing && !stays), "memory"),
+            (may(&self.frames, ends && !stays), "frames"),
+            (may(&self.numbers, ends && !stays), "numbers"),
+            (may(&self.clean, (ends || reads) && !stays), "clean"),
+            (may(&self.record, ends && !stays), "record"),
+            (may(&self.work, changing && !stays), "work"),
             (may(&self.dst, shows && !short), "dst"),
             (may(&self.answer, !short), "answer"),
+            (short || ten == barred, "10"),
+            (!ten || self.is_state_kept(), "state at 10"),
         ];
         match rules.iter().find(|(holds, _)| !holds) {
             Some((_, what)) => Err(what),
@@ -212,12 +242,14 @@ fn any_state_and_any_slices() {
             let mut slices = Slices::any(&mut prng, &call);
             let number = slices.call(&call);
             if let Err(what) = slices.check(&call, number) {
-                panic!("index {index}, {call:?} answers {number} and changes {what}");
+                panic!("index {index}, {call:?} answers {number}, and {what} is not as it should be");
             }
             *answered.entry((call.name(), number)).or_insert(0) += 1;
         }
     }
     assert!(answered.len() > 50, "{answered:?}");
+    assert!(answered[&("write_at", 10)] > 10, "{answered:?}");
+    assert!(answered[&("truncate", 10)] > 10, "{answered:?}");
 }
 
 /// The state's bytes at random, whole.
@@ -235,7 +267,7 @@ fn noise() {
             slices.state.before = slices.state.all.clone();
             let number = slices.call(&call);
             if let Err(what) = slices.check(&call, number) {
-                panic!("index {index}, {call:?} answers {number} and changes {what}");
+                panic!("index {index}, {call:?} answers {number}, and {what} is not as it should be");
             }
         }
     }
@@ -308,4 +340,84 @@ fn clean_pages_above_eight() {
         assert_eq!(state, state_of(&expected), "{count} clean pages");
         assert!(clean == before);
     }
+}
+
+/// A file of 20,000 bytes, in memory that holds noise behind it.
+fn opened() -> Library {
+    let memory = Prng::new(3).bytes(4 * STABLE_PAGE);
+    let room = Room {
+        frames: 3,
+        entries: 4,
+    };
+    let (mut library, _) = Library::open(memory, 0, Buffers::noise(4, room));
+    asked(&mut library, &write(0, 20_000), 0);
+    library.lend(Buffers::noise(5, room));
+    library
+}
+
+fn write(offset: u64, len: usize) -> Call {
+    let (seed, start) = (6, 0);
+    let bytes = Bytes { seed, start, len };
+    Call::WriteAt { offset, bytes }
+}
+
+fn asked(library: &mut Library, call: &Call, number: u64) {
+    let outcome = library.call(call).expect("slices as they should be");
+    assert_eq!(outcome.number, number, "{call:?}");
+}
+
+/// The importing mark in the state, and nowhere else.
+fn turn_mark(library: &mut Library) {
+    library.state[8 * FLAGS] ^= IMPORTING as u8;
+}
+
+/// A write or truncation is direct with no update open: in one, it is what it is without the mark.
+#[test]
+fn an_update_and_an_import_at_once() {
+    let calls = [
+        write(0, 1),
+        write(19_999, 20_000),
+        write(3, 0),
+        write(u64::MAX, 2),
+        write(0, 5 * PAGE_LEN),
+        Call::Truncate(20_000),
+        Call::Truncate(0),
+        Call::Truncate(u64::MAX),
+        Call::Truncate(90_000),
+    ];
+    for call in calls {
+        let mut plain = opened();
+        asked(&mut plain, &Call::BeginUpdate(None), 0);
+        let mut forged = plain.clone();
+        turn_mark(&mut forged);
+        let one = plain.call(&call).expect("slices as they should be");
+        let other = forged.call(&call).expect("slices as they should be");
+        assert_eq!(one, other, "{call:?}");
+        assert_ne!(other.number, 10, "{call:?}");
+        turn_mark(&mut forged);
+        assert!(plain == forged, "{call:?}");
+    }
+}
+
+/// The state's mark decides, whatever the block in memory has.
+#[test]
+fn the_mark_of_the_state_decides() {
+    let mut library = opened();
+    turn_mark(&mut library);
+    let before = library.clone();
+    for call in [write(0, 1), Call::Truncate(20_000)] {
+        asked(&mut library, &call, 10);
+        assert!(library.state == before.state && library.memory == before.memory);
+        assert!(library.buffers == before.buffers);
+        assert!(library.work == work_noise(library.work.len()));
+    }
+    let mut library = opened();
+    let import = Call::BeginImport {
+        total: 10,
+        expected: 5,
+    };
+    asked(&mut library, &import, 0);
+    asked(&mut library, &write(0, 1), 10);
+    turn_mark(&mut library);
+    asked(&mut library, &write(0, 1), 0);
 }

@@ -121,6 +121,21 @@ fn an_import_outlives_the_opening_here() {
     assert_eq!(again.begin_update(), Ok(0));
 }
 
+/// Here a direct write in an import grows into its bytes, and a truncation runs too; the library refuses both.
+#[test]
+fn direct_calls_run_in_an_import_here() {
+    let Some(mut store) = fresh() else { return };
+    let expected = oracle::fnv1a64(b"abc");
+    assert_eq!(store.begin_import(3, expected), Ok(()));
+    assert_eq!(store.import_chunk(0, b"abc"), Ok(()));
+    assert_eq!(store.write_at(0, b"x"), Ok(()));
+    assert_eq!(store.truncate(2), Ok(()));
+    assert_eq!(store.file_size(), Ok(2));
+    let actual = oracle::fnv1a64(b"x\0\0");
+    let refused = refusal(24, [expected, actual]);
+    assert_eq!(store.finish_import(), Err(refused));
+}
+
 #[test]
 fn stores_do_not_meet() {
     let (Some(mut one), Some(mut other)) = (fresh(), fresh()) else {

@@ -62,10 +62,13 @@ fn any_list_of_calls() {
         counts
     });
     say(&format!(
-        "YUHAROPU_SEED={seed:#x}: {} calls in {} lists, {} answered by the original too, {} imports closed by an opening, {} s\n{}",
+        "YUHAROPU_SEED={seed:#x}: {} calls in {} lists, {} answered by the original too, {} direct ones in an import left out there, \
+         {} empty writes in an import, {} imports closed by an opening, {} s\n{}",
         counts.calls,
         next.load(Ordering::Relaxed),
         counts.compared,
+        counts.left_out,
+        counts.empty_in_import,
         counts.closed,
         start.elapsed().as_secs(),
         counts.table()
@@ -73,6 +76,8 @@ fn any_list_of_calls() {
     if !oracle::AVAILABLE {
         say("the original's files are not at hand: the lists are compared with the models alone");
     }
+    let refused = counts.of("write_at", 10) + counts.of("truncate", 10);
+    assert_eq!(counts.left_out, refused, "direct calls in an import");
     if total >= CALLS {
         assert_eq!(counts.missing(), [], "what can arise and never did");
         assert!(counts.short_reads > 1_000, "{counts:?}");
@@ -80,5 +85,8 @@ fn any_list_of_calls() {
         assert!(counts.full_caches > 100, "{counts:?}");
         assert!(counts.freed > 1_000, "{counts:?}");
         assert!(counts.closed > 1_000, "{counts:?}");
+        assert!(counts.of("write_at", 10) > 1_000, "{counts:?}");
+        assert!(counts.of("truncate", 10) > 1_000, "{counts:?}");
+        assert!(counts.empty_in_import > 1_000, "{counts:?}");
     }
 }

@@ -229,7 +229,11 @@ fn order_of_calls() {
     assert_eq!(store.begin_import(1, 1), Ok(()));
     assert_eq!(store.begin_import(1, 1), Err(Error::ImportAlreadyStarted));
     assert_eq!(store.begin_update(None), Err(Error::ImportAlreadyStarted));
+    assert_eq!(store.write_at(0, &[1]), Err(Error::ImportAlreadyStarted));
+    assert_eq!(store.truncate(0), Err(Error::ImportAlreadyStarted));
+    assert_eq!(store.write_at(0, &[]), Ok(()));
     assert_eq!(store.cancel_import(), Ok(()));
+    assert_eq!(store.write_at(0, &[1]), Ok(()));
 }
 
 #[test]

@@ -92,7 +92,7 @@ fn open(made: &Made, seed: u64, room: Room) -> Option<(Run, Store)> {
 
 #[test]
 fn any_list_of_calls() {
-    let (mut calls, mut full) = (0, 0);
+    let (mut calls, mut full, mut left_out) = (0, 0, 0);
     for index in 0..LISTS {
         let mut prng = Prng::new(mix(index));
         let mut chooser = Chooser::new(prng.number(), index.is_multiple_of(4));
@@ -115,8 +115,10 @@ fn any_list_of_calls() {
             calls += 1;
             full += u64::from(whole.number == 33);
         }
+        left_out += run.left_out;
     }
     assert!(calls > 20_000 && full > 500, "{calls} calls, {full} by 33");
+    assert!(left_out > 100, "{left_out} direct calls in an import");
 }
 
 #[test]

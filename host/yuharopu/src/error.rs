@@ -9,6 +9,8 @@ pub enum Error {
     UnsupportedLayoutVersion(u64),
     MetaChecksumMismatch,
     ImageOutOfMemory,
+    /// While an import is open no update and no other import begins, no step of a refresh is made, and no direct
+    /// truncation or write that has a byte.
     ImportAlreadyStarted,
     ImportNotStarted,
     UpdateInProgress,

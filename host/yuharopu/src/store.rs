@@ -130,7 +130,8 @@ impl Store {
         Ok(self.on_frames(0, read)?[0] == 1)
     }
 
-    /// In the update that is open, or directly.
+    /// In the update that is open, or directly. While an import is open a direct write is refused, unless it is empty:
+    /// [`Error::ImportAlreadyStarted`].
     pub fn write_at(&mut self, offset: u64, bytes: &[u8]) -> Result<(), Error> {
         let write = |state: &mut [u8], lent: &mut Lent, answer: &mut [u64]| {
             calls::write_at(state, lent, offset, bytes, answer)
@@ -139,7 +140,8 @@ impl Store {
         Ok(())
     }
 
-    /// In the update that is open, or directly.
+    /// In the update that is open, or directly. While an import is open a direct truncation is refused:
+    /// [`Error::ImportAlreadyStarted`].
     pub fn truncate(&mut self, size: u64) -> Result<(), Error> {
         let truncate = |state: &mut [u8], lent: &mut Lent, answer: &mut [u64]| {
             calls::truncate(state, lent, size, answer)
@@ -160,7 +162,8 @@ impl Store {
         Ok(())
     }
 
-    /// Begins an import of `total` bytes whose FNV-1a hash is to be `expected`. It does not outlive the store: opening
+    /// Begins an import of `total` bytes whose FNV-1a hash is to be `expected`. While it is open the file stays: no update
+    /// begins, and direct truncations and writes that have a byte are refused. It does not outlive the store: opening
     /// [`Store::memory`] again cancels it.
     pub fn begin_import(&mut self, total: u64, expected: u64) -> Result<(), Error> {
         self.on_memory(|state, mem, answer| {

@@ -2,6 +2,7 @@
 
 use super::{Room, PAGE_LEN};
 use crate::prng::Prng;
+use std::sync::OnceLock;
 
 #[derive(Clone, Eq, PartialEq)]
 pub struct Buffers {
@@ -18,15 +19,28 @@ impl Buffers {
         let (more_bytes, more_numbers) =
             prng.pick(&[(0, 0), (0, 0), (PAGE_LEN / 2, 0), (0, 3), (PAGE_LEN, 0)]);
         let odd = prng.below(2) as usize;
-        let mut any = |len: usize| (0..len).map(|_| prng.number()).collect::<Vec<u64>>();
-        let numbers = any(room.frames + more_numbers);
-        let record = any(2 * room.entries + odd);
-        Self {
-            frames: prng.bytes(room.frames * PAGE_LEN + more_bytes),
-            numbers,
-            clean: prng.bytes(8 * PAGE_LEN + 3 * odd),
-            record,
+        let mut buffers = Self {
+            frames: vec![0; room.frames * PAGE_LEN + more_bytes],
+            numbers: vec![0; room.frames + more_numbers],
+            clean: vec![0; 8 * PAGE_LEN + 3 * odd],
+            record: vec![0; 2 * room.entries + odd],
+        };
+        buffers.fill_with_noise(prng.number());
+        buffers
+    }
+
+    /// Noise in every place, the same from the same seed.
+    pub fn fill_with_noise(&mut self, seed: u64) {
+        let mut prng = Prng::new(seed);
+        let noise = noise();
+        for bytes in [&mut self.frames, &mut self.clean] {
+            for page in bytes.chunks_mut(PAGE_LEN) {
+                let from = prng.below((noise.len() - PAGE_LEN) as u64) as usize;
+                page.copy_from_slice(&noise[from..from + page.len()]);
+            }
         }
+        self.numbers.fill_with(|| prng.number());
+        self.record.fill_with(|| prng.number());
     }
 
     /// The smaller count decides.
@@ -55,6 +69,12 @@ impl Buffers {
         self.clean.fill(0);
         self.record.fill(0);
     }
+}
+
+/// A few pages to take noise from: buffers are filled before many calls, and to copy is cheaper than to draw.
+fn noise() -> &'static [u8] {
+    static NOISE: OnceLock<Vec<u8>> = OnceLock::new();
+    NOISE.get_or_init(|| Prng::new(1).bytes(5 * PAGE_LEN))
 }
 
 /// The numbers of a work list for these buffers.

@@ -65,6 +65,15 @@ impl Call {
         }
     }
 
+    /// Whether it is to change the file: a write that is not empty, or a truncation, also to the size it has.
+    pub fn is_change(&self) -> bool {
+        match self {
+            Call::WriteAt { bytes, .. } => bytes.len > 0,
+            Call::Truncate(_) => true,
+            _ => false,
+        }
+    }
+
     fn numbers(&self) -> Vec<u64> {
         let with_bytes = |offset: u64, bytes: &Bytes| {
             vec![offset, bytes.seed, bytes.start as u64, bytes.len as u64]

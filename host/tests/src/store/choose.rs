@@ -188,9 +188,27 @@ impl Chooser {
             0..=33 => self.chunk(seen),
             34..=47 => Call::FinishImport,
             48..=55 => Call::CancelImport,
-            56..=69 => self.change(seen),
+            56..=69 => self.direct_in_import(seen),
             70..=79 => self.read(seen),
             _ => self.any(seen),
+        }
+    }
+
+    /// Refused, whatever the place, also where nothing would change or another refusal would be met; an empty write is
+    /// not.
+    fn direct_in_import(&mut self, seen: &Seen) -> Call {
+        match self.prng.below(10) {
+            0..=1 => {
+                let offset = self.place(seen);
+                self.write(offset, 0)
+            }
+            2 => {
+                let back = self.prng.below(3);
+                self.write(u64::MAX - back, 1 + back as usize)
+            }
+            3 => Call::Truncate(seen.size),
+            4 => Call::Truncate(self.prng.pick(&[0, u64::MAX])),
+            _ => self.change(seen),
         }
     }
 

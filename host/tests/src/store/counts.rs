@@ -14,6 +14,10 @@ pub struct Counts {
     pub freed: u64,
     /// Imports that an opening has closed.
     pub closed: u64,
+    /// Direct calls in an import that the original is not asked for.
+    pub left_out: u64,
+    /// Empty direct writes in an import, which are accepted.
+    pub empty_in_import: u64,
 }
 
 /// Each call with the refusals that can arise in it, but for 35.
@@ -22,8 +26,8 @@ pub const ARISING: &[(&str, &[u64])] = &[
     ("begin_update", &[0, 10, 13]),
     ("file_size", &[0]),
     ("read_at", &[0]),
-    ("write_at", &[0, 20, 30, 31, 32, 33, 34]),
-    ("truncate", &[0, 20, 30, 31, 32, 33, 34]),
+    ("write_at", &[0, 10, 20, 30, 31, 32, 33, 34]),
+    ("truncate", &[0, 10, 20, 30, 31, 32, 33, 34]),
     ("commit_update", &[0, 20, 31, 32]),
     ("rollback_update", &[0]),
     ("begin_import", &[0, 10, 12, 20]),
@@ -58,6 +62,8 @@ impl Counts {
         self.full_caches += other.full_caches;
         self.freed += other.freed;
         self.closed += other.closed;
+        self.left_out += other.left_out;
+        self.empty_in_import += other.empty_in_import;
     }
 
     /// A line a call: each number with how often it was the answer.

@@ -10,6 +10,7 @@ pub const TOO_SHORT: u64 = 35;
 /// Behind the bytes of an export or a dirty page, which stay.
 const BEHIND: usize = 5;
 
+#[derive(Clone, PartialEq)]
 pub struct Library {
     pub state: Vec<u8>,
     pub memory: Vec<u8>,
@@ -63,14 +64,12 @@ impl Library {
         self.buffers = buffers;
     }
 
+    /// The call with noise in the work list. What it leaves there, in the state, memory and buffers is for the caller to
+    /// compare.
     pub fn call(&mut self, call: &Call) -> Result<Outcome, String> {
-        self.work.fill(NUMBER_NOISE);
+        self.work = work_noise(self.work.len());
         let dst = vec![NOISE; shown(call)];
         let seen = self.with(call, None, vec![NUMBER_NOISE; 5], dst);
-        let kept = if uses_work(call) { 0 } else { NUMBER_NOISE };
-        if self.work.iter().any(|number| *number != kept) {
-            return Err("the work list".into());
-        }
         if seen.answer[4] != NUMBER_NOISE {
             return Err("behind the answer".into());
         }
@@ -90,15 +89,15 @@ impl Library {
     /// The call with one slice cut: 35, and that neither answer, bytes nor work list changed. The rest is for the caller
     /// to compare.
     pub fn refuses(&mut self, call: &Call, cut: Cut) -> Result<(), String> {
-        self.work.fill(NUMBER_NOISE);
+        self.work = work_noise(self.work.len());
         let dst = vec![NOISE; shown(call)];
         let answer = vec![NUMBER_NOISE; if let Cut::Answer(len) = cut { len } else { 4 }];
         let seen = self.with(call, Some(cut), answer, dst);
         if seen.number != TOO_SHORT {
             return Err(format!("{} for {cut:?}", seen.number));
         }
-        let numbers = seen.answer.iter().chain(&self.work);
-        let same = numbers.copied().all(|number| number == NUMBER_NOISE);
+        let same = seen.answer.iter().all(|number| *number == NUMBER_NOISE)
+            && self.work == work_noise(self.work.len());
         if !same || !seen.same_state || seen.dst.iter().any(|byte| *byte != NOISE) {
             return Err(format!("changed by 35 for {cut:?}"));
         }
@@ -139,17 +138,15 @@ impl Library {
     }
 }
 
+/// What a work list holds before each call: another number in each place.
+pub fn work_noise(len: usize) -> Vec<u64> {
+    (NUMBER_NOISE..).take(len).collect()
+}
+
 /// So many elements, or all.
 fn front<T>(whole: &mut [T], len: Option<usize>) -> &mut [T] {
     let len = len.unwrap_or(whole.len());
     &mut whole[..len]
-}
-
-fn uses_work(call: &Call) -> bool {
-    matches!(
-        call,
-        Call::WriteAt { .. } | Call::Truncate(_) | Call::CommitUpdate
-    )
 }
 
 /// The bytes of a buffer for what the call shows.

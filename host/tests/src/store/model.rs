@@ -26,6 +26,8 @@ pub struct Model {
     pub update: Option<Update>,
     /// What is lent beside memory, as far as the open update does not use it.
     pub buffers: Buffers,
+    /// The work list that a call is lent, if it is lent one.
+    pub work: Vec<u64>,
 }
 
 impl Model {
@@ -107,12 +109,26 @@ impl Model {
         Outcome::with_bytes(u64::from(full), bytes)
     }
 
+    /// "an empty direct write is still accepted" in an import
     fn write(&mut self, offset: u64, bytes: &[u8]) -> Tried<Outcome> {
+        if !bytes.is_empty() {
+            self.bar_in_import()?;
+        }
         self.change(|update, image| update.write(image, offset, bytes))
     }
 
     fn truncate(&mut self, size: u64) -> Tried<Outcome> {
+        self.bar_in_import()?;
         self.change(|update, image| update.truncate(image, size))
+    }
+
+    /// Of a direct call: "It refuses with 10, right after 35 and, like 35, with nothing changed, lent frames and lists
+    /// included" (02, W-203).
+    fn bar_in_import(&self) -> Tried<()> {
+        if self.update.is_none() && self.is_importing() {
+            return Err((10, [0; 2]));
+        }
+        Ok(())
     }
 
     /// "A direct call, accepted, is a begin, itself and a commit."
@@ -120,6 +136,7 @@ impl Model {
         &mut self,
         change: impl FnOnce(&mut Update, &View) -> Result<(), u64>,
     ) -> Tried<Outcome> {
+        self.work.fill(0);
         if let Some(mut update) = self.update.take() {
             let tried = change(&mut update, &self.view());
             self.update = Some(update);
@@ -135,7 +152,11 @@ impl Model {
         Ok(Outcome::done())
     }
 
+    /// A rollback is lent no work list.
     fn end(&mut self, commit: bool) -> Tried<Outcome> {
+        if commit {
+            self.work.fill(0);
+        }
         let Some(update) = self.update.take() else {
             return Ok(Outcome::done());
         };

@@ -22,6 +22,9 @@ pub struct PlainFile {
 
 type Held = Result<(), String>;
 
+/// A finish that is refused so closes the import, "the rest unchanged".
+const CLOSED: u64 = 24;
+
 fn hold(holds: bool, what: impl FnOnce() -> String) -> Held {
     if holds {
         Ok(())
@@ -75,17 +78,26 @@ impl PlainFile {
                 self.draft = None;
                 hold(accepted, || "a refused rollback".into())
             }
-            Call::BeginImport { .. }
-            | Call::ImportChunk { .. }
-            | Call::FinishImport
-            | Call::CancelImport
+            Call::BeginImport { .. } | Call::ImportChunk { .. } | Call::CancelImport
                 if accepted =>
             {
+                self.stays(memory)
+            }
+            Call::FinishImport if accepted => {
                 *self = Self::in_memory(memory);
                 Ok(())
             }
+            Call::FinishImport if outcome.number == CLOSED => self.stays(memory),
             _ => Ok(()),
         }
+    }
+
+    /// "accepted import calls set it to the image in the memory they leave": to the file that it is, unless the import is
+    /// finished, since its bytes lie past the image's and nothing else is written while it is open (02, W-202 and W-203).
+    fn stays(&self, memory: &[u8]) -> Held {
+        hold(*self == Self::in_memory(memory), || {
+            "the file in an import".into()
+        })
     }
 
     fn sized(&self, outcome: &Outcome) -> Held {

@@ -2,9 +2,10 @@
 
 use super::act::{Act, Needs};
 use super::choose::Seen;
+use super::library::work_noise;
 use super::update::{Page, Update};
 use super::{Buffers, Call, Library, Made, Model, Original, Outcome, PlainFile, PAGE_LEN};
-use crate::block::{self, BASE, IMPORT};
+use crate::block::{self, BASE, FLAGS, IMPORT, IMPORTING};
 
 const STABLE_PAGE: usize = 65_536;
 const ADDED: [u64; 2] = [33, 34];
@@ -24,6 +25,10 @@ pub struct Run {
     pub freed: u64,
     /// How many imports an opening has closed.
     pub closed: u64,
+    /// How many direct calls in an import the original was not asked for.
+    pub left_out: u64,
+    /// How often the buffers were filled with noise.
+    fillings: u64,
 }
 
 type Held<T> = Result<T, String>;
@@ -79,6 +84,8 @@ impl Run {
             full_caches: 0,
             freed: 0,
             closed: 0,
+            left_out: 0,
+            fillings: 0,
         };
         run.check_opened(in_use)?;
         Ok((answer, Some(run)))
@@ -125,6 +132,7 @@ impl Run {
             },
             Act::Short { call, cut } => {
                 if cut.is_short(call, &self.needs()) {
+                    self.lend_noise(call)?;
                     self.library.refuses(call, *cut)?;
                     self.check()?;
                 }
@@ -164,20 +172,51 @@ impl Run {
         self.library.lend(buffers);
     }
 
+    /// With no update open the buffers have nothing to keep. They get noise for a call that is lent them to change, or that begins an update: in the
+    /// zeros that the end of an update leaves it is not seen whether a call fills them with zeros or leaves them.
+    fn lend_noise(&mut self, call: &Call) -> Held<()> {
+        let begins = matches!(call, Call::BeginUpdate(_));
+        if self.model.update.is_some() || !(begins || Changes::of(call).frames) {
+            return Ok(());
+        }
+        // what is filled now is not seen again
+        self.check_buffers(Changes::ALL)?;
+        self.fillings += 1;
+        self.library.buffers.fill_with_noise(self.fillings);
+        self.model.buffers.fill_with_noise(self.fillings);
+        Ok(())
+    }
+
     fn call(&mut self, call: &Call) -> Held<Outcome> {
         let before = self.dirty().len();
         let update = self.model.update.is_some();
+        let left_out = self.leaves_out(call);
+        self.lend_noise(call)?;
+        self.model.work = work_noise(self.library.work.len());
         let outcome = self.library.call(call)?;
         let modelled = self.model.call(call);
         same("answer", &outcome, &modelled)?;
         self.check_lent(Changes::of(call))?;
+        hold(self.library.work == self.model.work, "work list")?;
         self.file.feed(call, &outcome, &self.library.memory)?;
-        self.ask_original(call, &outcome, update)?;
+        if left_out {
+            self.left_out += 1;
+            self.check_original()?;
+        } else {
+            self.ask_original(call, &outcome, update)?;
+        }
         if let Some(update) = &self.model.update {
             self.full_caches += u64::from(update.cache.len() == 8);
             self.freed += before.saturating_sub(update.dirty.len()) as u64;
         }
         Ok(outcome)
+    }
+
+    /// "Comparison with the Rust leaves out such calls": direct ones in an import, but for an empty write. The original makes them.
+    pub fn leaves_out(&self, call: &Call) -> bool {
+        let state = self.library.numbers();
+        let direct = call.is_change() && state[UPDATE - 1] == 0;
+        direct && state[1 + FLAGS] & IMPORTING != 0
     }
 
     fn ask_original(&mut self, call: &Call, outcome: &Outcome, update: bool) -> Held<()> {
@@ -265,10 +304,14 @@ impl Run {
         if changes.memory {
             hold(library.memory == model.memory, "memory")?;
         }
-        let (now, was) = (&library.buffers, &model.buffers);
-        match &model.update {
+        self.check_buffers(changes)
+    }
+
+    fn check_buffers(&self, changes: Changes) -> Held<()> {
+        let (now, was) = (&self.library.buffers, &self.model.buffers);
+        match &self.model.update {
             None => check_idle(now, was, changes),
-            Some(update) => check_buffers(now, was, update, changes),
+            Some(update) => check_used(now, was, update, changes),
         }
     }
 
@@ -359,7 +402,7 @@ fn check_idle(now: &Buffers, was: &Buffers, changes: Changes) -> Held<()> {
 
 /// "A frame or clean frame that is freed is used again: later pages move up, and the places left over become zeros." What
 /// was never used is as it was lent.
-fn check_buffers(now: &Buffers, was: &Buffers, update: &Update, changes: Changes) -> Held<()> {
+fn check_used(now: &Buffers, was: &Buffers, update: &Update, changes: Changes) -> Held<()> {
     let pages = |pages: &[Page], used: usize, now: &[u8], was: &[u8], what: &str| {
         for ((_, bytes), frame) in pages.iter().zip(now.chunks(PAGE_LEN)) {
             hold(frame == bytes, what)?;

@@ -1,6 +1,6 @@
 //! Lists from a seed, and the smallest list that still fails.
 
-use super::choose::Chooser;
+use super::choose::{Chooser, Seen};
 use super::counts::Counts;
 use super::{Act, Buffers, Call, Made, Outcome, Room, Run};
 use crate::prng::{mix, Prng};
@@ -109,13 +109,14 @@ pub fn random(seed: u64, shape: Shape, counts: &mut Counts) -> Result<(), String
         }
     };
     for _ in 0..1 + prng.below(shape.calls) {
-        let act = chooser.next(&run.seen());
+        let seen = run.seen();
+        let act = chooser.next(&seen);
         list.acts.push(act);
         let Ok(outcome) = step(&mut run, &act) else {
             return Err(list.shrink().report());
         };
         match (act, outcome) {
-            (Act::Call(call), Some(outcome)) => tally(&call, &outcome, counts),
+            (Act::Call(call), Some(outcome)) => tally(&call, &outcome, &seen, counts),
             (_, Some(outcome)) => counts.count("open", outcome.number),
             _ => {}
         }
@@ -127,15 +128,19 @@ pub fn random(seed: u64, shape: Shape, counts: &mut Counts) -> Result<(), String
     counts.full_caches += run.full_caches;
     counts.freed += run.freed;
     counts.closed += run.closed;
+    counts.left_out += run.left_out;
     Ok(())
 }
 
-fn tally(call: &Call, outcome: &Outcome, counts: &mut Counts) {
+/// A call, its answer, and where the store stood before it.
+fn tally(call: &Call, outcome: &Outcome, seen: &Seen, counts: &mut Counts) {
     counts.count(call.name(), outcome.number);
     let accepted = outcome.number == 0 && outcome.values[0] == 0;
     match call {
         Call::ReadAt { .. } if accepted => counts.short_reads += 1,
         Call::RefreshChecksumChunk(_) if accepted => counts.steps_left += 1,
+        // no other is accepted there
+        Call::WriteAt { .. } if accepted && seen.importing => counts.empty_in_import += 1,
         _ => {}
     }
 }

@@ -98,7 +98,7 @@ pub fn read_at(
     }
 }
 
-/// Writes in the update that is open, or directly.
+/// Writes in the update that is open, or directly: in an import that is 10, with nothing changed, unless it is empty.
 pub fn write_at(
     state: &mut [u8],
     lent: &mut Lent,
@@ -132,7 +132,7 @@ pub fn write_at(
     }
 }
 
-/// Sets the size in the update that is open, or directly.
+/// Sets the size in the update that is open, or directly: in an import that is 10, with nothing changed.
 pub fn truncate(state: &mut [u8], lent: &mut Lent, size: u64, answer: &mut [u64]) -> u64 {
     // SAFETY: each pointer and the length after it are one slice's.
     unsafe {

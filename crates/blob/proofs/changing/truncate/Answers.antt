@@ -1,3 +1,4 @@
+use Rattle.std.specs.Prelude.{refl}
 use Rattle.std.proofs.Common.{rules}
 use Rattle.update.specs.Laid.{bufs}
 use Rattle.blob.proofs.Changes.{truncate_change}
@@ -7,10 +8,10 @@ pub change-requires-clause-change : goal.change-requires-clause-change
 change-requires-clause-change c =
     let a = c.args in
     let b = bufs a.frames.now a.numbers.now a.clean.now a.«record».now in
-    (_, truncate_change _ _ a.s.now a.mem.now a.work.now b a.size (λ v v' i x x' r h. search rules))
+    (_, truncate_change _ _ a.s.now a.mem.now a.work.now b _ a.size refl (λ v v' i x x' r h. search rules))
 
 pub returns : goal.returns
 returns c =
     let a = c.args in
     let b = bufs a.frames.now a.numbers.now a.clean.now a.«record».now in
-    c.change.ensures _ (truncate_change _ _ a.s.now a.mem.now a.work.now b a.size (λ v v' i x x' r h. search rules))
+    c.change.ensures _ (truncate_change _ _ a.s.now a.mem.now a.work.now b _ a.size refl (λ v v' i x x' r h. search rules))

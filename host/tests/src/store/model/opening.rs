@@ -25,6 +25,7 @@ impl Model {
             runs: Vec::new(),
             update: None,
             buffers,
+            work: Vec::new(),
         };
         if (model.memory.len() as u64) / STABLE_PAGE < count {
             return Err((35, [0; 2]));

@@ -5,10 +5,23 @@ use crate::store::update::parts;
 use std::collections::BTreeMap;
 use std::rc::Rc;
 
-#[derive(Clone, Default, PartialEq)]
+#[derive(Clone, Default)]
 pub struct Pages(BTreeMap<u64, Rc<Vec<u8>>>);
 
+static ZEROS: [u8; PAGE as usize] = [0; PAGE as usize];
+
+impl PartialEq for Pages {
+    fn eq(&self, other: &Self) -> bool {
+        let mut pages = self.0.keys().chain(other.0.keys());
+        pages.all(|page| self.page(page) == other.page(page))
+    }
+}
+
 impl Pages {
+    fn page(&self, page: &u64) -> &[u8] {
+        self.0.get(page).map_or(&ZEROS, |bytes| bytes)
+    }
+
     pub fn of(pages: impl Iterator<Item = Vec<u8>>) -> Self {
         Self((0..).zip(pages.map(Rc::new)).collect())
     }

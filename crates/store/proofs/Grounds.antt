@@ -1,4 +1,4 @@
--- 35 comes of what is lent alone: a call that is lent enough answers something else.
+-- 35 comes of what is lent alone, and the 10 of a write or a truncation of an open import alone: without these a call answers something else.
 use Rattle.std.specs.Prelude.{◌≡◌, Bool, true, false, not, ◌&&◌, List, ltb, leb, take, drop, Ok, Err}
 use Prim.Native.Nat.{ℕ, ◌+◌, ◌*◌, ◌/◌}
 use Rattle.std.proofs.Common.{arith}
@@ -23,57 +23,114 @@ use Rattle.store.specs.Codec.{Codec}
 use Rattle.store.specs.Blocks.{importing, refreshing}
 use Rattle.store.specs.Calls.{Call, begin, read, write, truncate, commit, rollback, file_size, import_begin, import_chunk, import_finish, import_cancel, export, checksum, refresh, refresh_step, Lent, Out, number, uses, Mode, idle, update, mode_of, short}
 use Rattle.store.specs.Plan.{required as reachOf}
-use Rattle.store.specs.Store.{budget_of, image, planned_runs, unchanged, settle, publish, commit_over, direct, change, in_update, restore, do_begin, do_read, do_commit, do_rollback, do_import_begin, place_chunk, do_import_chunk, do_import_finish, do_import_cancel, do_export, do_checksum, do_refresh, refresh_from, do_refresh_step, alone, act, swept, store}
+use Rattle.store.specs.Store.{budget_of, image, planned_runs, unchanged, settle, publish, commit_over, direct, change, in_update, restore, do_begin, do_read, do_commit, do_rollback, do_import_begin, place_chunk, do_import_chunk, do_import_finish, do_import_cancel, do_export, do_checksum, do_refresh, refresh_from, do_refresh_step, alone, barred, act, swept, store}
 use Rattle.store.specs.Cases.{by_test}
 use Rattle.store.specs.Tries.{RefusedBy, write_by, truncate_by}
+use Rattle.store.proofs.WaysOut.{store_cases}
 
-abbrev Other : Refusal → Type 0
-Other r = (numbers_of r).number ≡ 35 → ⊥
+-- ## What a write, a truncation and a commit can answer beside 35 and 10
 
-abbrev T : Tried → Type 0
-T = RefusedBy Other
+-- N holds of these numbers
+pub record Numbers (N : ℕ → Type 0) : Type 0 where
+  pub accepted : N 0
+  pub overflow : N 20
+  pub budget : N 30
+  pub runs : N 31
+  pub memory : N 32
+  pub frames : N 33
+  pub entries : N 34
 
-abbrev G : Growth → Type 0
-G (Ok c) = Unit {0}
-G (Err r) = Other r
+module _ (N : ℕ → Type 0) where
+  abbrev Grows : Growth → Type 0
+  Grows (Ok c) = Unit {0}
+  Grows (Err r) = N (numbers_of r).number
 
-grown_or : (b : Bool) (x y : Outcome) → G x.growth → G y.growth → G (pick b x y).growth
-grown_or true x y f g = f
-grown_or false x y f g = g
+  grown_or : (b : Bool) (x y : Outcome) → Grows x.growth → Grows y.growth → Grows (pick b x y).growth
+  grown_or true x y f g = f
+  grown_or false x y f g = g
 
-growth_other : (S n end : ℕ) (mem : List ℕ) → G (grow_to S n end mem).growth
-unfolding grow_to
-growth_other S n end mem = grown_or (leb end (n * S)) _ _ tt (grown_or (leb (required S n end) (length mem / S)) _ _ tt (λ q. omega arith))
+  growth_of : N 32 → (S n end : ℕ) (mem : List ℕ) → Grows (grow_to S n end mem).growth
+  unfolding grow_to
+  growth_of h S n end mem = grown_or (leb end (n * S)) _ _ tt (grown_or (leb (required S n end) (length mem / S)) _ _ tt h)
+
+module _ (N : ℕ → Type 0) (y : Numbers N) (P S C L M : ℕ) (k : Codec) (s : State) (l : Lent) where
+  abbrev Of : Refusal → Type 0
+  Of r = N (numbers_of r).number
+
+  abbrev A : Out → Type 0
+  A x = N (number x.answer)
+
+  publish_of : (u : Bool) (w : Over) (rs : List ZeroExtent) (m : List ℕ) (g : Growth) → Grows N g → A (publish P S C L M k u s l w rs m g)
+  publish_of u w rs m (Ok c) h = y.accepted
+  publish_of u w rs m (Err r) h = h
+
+  settle_of : (u : Bool) (w : Over) (x : Planned) → A (settle P S C L M k u s l w x)
+  settle_of u w too_many = y.runs
+  settle_of u w (kept rs) =
+      let end : ℕ = reachOf P s.block.db_base_offset (below (count P w.size) (page_numbers w.dirty)) (s.block.db_base_offset + w.size) in
+      by_test A (ltb M end) _ _ (λ x. y.overflow) (λ x. publish_of u w rs (grow_to S s.count.0 end l.mem).mem (grow_to S s.count.0 end l.mem).growth (growth_of N y.memory S s.count.0 end l.mem))
+
+  commit_of_lem : (u : Bool) (begun : ℕ) (w : Over) → A (commit_over P S C L M k u s l begun w)
+  unfolding commit_over
+  commit_of_lem u begun w = by_test A (unchanged P S C L M k begun w) _ _ (λ x. y.accepted) (λ x. settle_of u w (planned_runs P S C L M k s l.mem w))
+
+  direct_of : (t : Tried) → RefusedBy Of t → A (direct P S C L M k s l t)
+  direct_of (accepted w) h = commit_of_lem false s.block.db_size w
+  direct_of (refused r w) h = h
+
+  in_of : (v : Overlay) (reach : ℕ) (t : Tried) → RefusedBy Of t → A (in_update P S C L M k s l v reach t)
+  in_of v reach (accepted w) h = y.accepted
+  in_of v reach (refused r w) h = h
+
+  change_of : (f : Over → Tried) (g : Over → ℕ) (t : Mode) → ((v : Over) → RefusedBy Of (f v)) → A (change P S C L M k s l f g t)
+  change_of f g idle h = direct_of (f (fresh P s.block.db_size (budget_of false 0 0))) (h _)
+  change_of f g (update v) h = in_of v (g (view P C v l.bufs)) (f (view P C v l.bufs)) (h _)
+
+  abbrev F : ℕ
+  F = frame_count P l.bufs
+
+  abbrev R : ℕ
+  R = entry_count l.bufs
+
+  abbrev img : ℕ → ℕ
+  img = image P S C L M k s.block l.mem
+
+  write_of : (o : ℕ) (bs : List ℕ) → A (act P S C L M k s l (write o bs))
+  write_of o bs = change_of (try_write P M F R img o bs) (λ u. 0) (mode_of s) (λ v. write_by Of y.budget y.frames y.entries P M F R img v (λ t. y.overflow) o bs (λ t. y.overflow))
+
+  truncate_of : (n : ℕ) → A (act P S C L M k s l (truncate n))
+  truncate_of n = change_of (try_truncate P M F R img n) (truncate_reach P M F R img n) (mode_of s) (λ v. truncate_by Of y.budget y.frames y.entries P M F R img v (λ t. y.overflow) n)
+
+-- ## 10 of a write or a truncation
+
+abbrev Not10 : ℕ → Type 0
+Not10 n = n ≡ 10 → ⊥
+
+numbers_10 : Numbers Not10
+numbers_10 = record { accepted = λ e. omega (arith, e); overflow = λ e. omega (arith, e); budget = λ e. omega (arith, e); runs = λ e. omega (arith, e); memory = λ e. omega (arith, e); frames = λ e. omega (arith, e); entries = λ e. omega (arith, e) }
+
+-- 02, W-203: it "refuses with 10" only where it is barred, in any state and with anything lent (there it does: `store_barred`)
+module _ (P S C L M : ℕ) (k : Codec) (s : State) (l : Lent) where
+  abbrev Only : Call → Out → Type 0
+  Only c x = number x.answer ≡ 10 → barred s c ≡ true
+
+  pub write_10 : (o : ℕ) (bs : List ℕ) → Only (write o bs) (store P S C L M k s l (write o bs))
+  write_10 o bs = store_cases P S C L M k s l (write o bs) (Only (write o bs)) (λ t e. absurd (omega (arith, e))) (λ f b e. b) (λ f b e. absurd (write_of Not10 numbers_10 P S C L M k s l o bs e))
+
+  pub truncate_10 : (n : ℕ) → Only (truncate n) (store P S C L M k s l (truncate n))
+  truncate_10 n = store_cases P S C L M k s l (truncate n) (Only (truncate n)) (λ t e. absurd (omega (arith, e))) (λ f b e. b) (λ f b e. absurd (truncate_of Not10 numbers_10 P S C L M k s l n e))
+
+-- ## 35 of any call
+
+abbrev Not35 : ℕ → Type 0
+Not35 n = n ≡ 35 → ⊥
+
+numbers_35 : Numbers Not35
+numbers_35 = record { accepted = λ e. omega (arith, e); overflow = λ e. omega (arith, e); budget = λ e. omega (arith, e); runs = λ e. omega (arith, e); memory = λ e. omega (arith, e); frames = λ e. omega (arith, e); entries = λ e. omega (arith, e) }
 
 module _ (P S C L M : ℕ) (k : Codec) (s : State) (l : Lent) where
   abbrev U : Out → Type 0
-  U x = number x.answer ≡ 35 → ⊥
-
-  publish_other : (u : Bool) (w : Over) (rs : List ZeroExtent) (m : List ℕ) (g : Growth) → G g → U (publish P S C L M k u s l w rs m g)
-  publish_other u w rs m (Ok c) h = λ e. omega (arith, e)
-  publish_other u w rs m (Err r) h = h
-
-  settle_other : (u : Bool) (w : Over) (x : Planned) → U (settle P S C L M k u s l w x)
-  settle_other u w too_many = λ e. omega (arith, e)
-  settle_other u w (kept rs) =
-      let end : ℕ = reachOf P s.block.db_base_offset (below (count P w.size) (page_numbers w.dirty)) (s.block.db_base_offset + w.size) in
-      by_test U (ltb M end) _ _ (λ x. λ e. omega (arith, e)) (λ x. publish_other u w rs (grow_to S s.count.0 end l.mem).mem (grow_to S s.count.0 end l.mem).growth (growth_other S s.count.0 end l.mem))
-
-  commit_other : (u : Bool) (begun : ℕ) (w : Over) → U (commit_over P S C L M k u s l begun w)
-  unfolding commit_over
-  commit_other u begun w = by_test U (unchanged P S C L M k begun w) _ _ (λ x. λ e. omega (arith, e)) (λ x. settle_other u w (planned_runs P S C L M k s l.mem w))
-
-  direct_other : (t : Tried) → T t → U (direct P S C L M k s l t)
-  direct_other (accepted w) h = commit_other false s.block.db_size w
-  direct_other (refused r w) h = h
-
-  in_other : (v : Overlay) (reach : ℕ) (t : Tried) → T t → U (in_update P S C L M k s l v reach t)
-  in_other v reach (accepted w) h = λ e. omega (arith, e)
-  in_other v reach (refused r w) h = h
-
-  change_other : (f : Over → Tried) (g : Over → ℕ) (t : Mode) → ((v : Over) → T (f v)) → U (change P S C L M k s l f g t)
-  change_other f g idle h = direct_other (f (fresh P s.block.db_size (budget_of false 0 0))) (h _)
-  change_other f g (update v) h = in_other v (g (view P C v l.bufs)) (f (view P C v l.bufs)) (h _)
+  U x = Not35 (number x.answer)
 
   begin_other : (g : Budget) (i : Bool) (t : Mode) → U (do_begin P S C L M k s l g i t)
   begin_other g true t = λ e. omega (arith, e)
@@ -86,7 +143,7 @@ module _ (P S C L M : ℕ) (k : Codec) (s : State) (l : Lent) where
 
   end_other : (t : Mode) → U (do_commit P S C L M k s l t)
   end_other idle = λ e. omega (arith, e)
-  end_other (update v) = commit_other true v.base_size (view P C v l.bufs)
+  end_other (update v) = commit_of_lem Not35 numbers_35 P S C L M k s l true v.base_size (view P C v l.bufs)
 
   back_other : (t : Mode) → U (do_rollback P S C L M k s l t)
   back_other idle = λ e. omega (arith, e)
@@ -96,7 +153,7 @@ module _ (P S C L M : ℕ) (k : Codec) (s : State) (l : Lent) where
   unfolding do_import_begin restore
   import_other t x = by_test U (importing s.block) _ _ (λ y. λ e. omega (arith, e)) (λ y. by_test U (ltb M (s.count.0 * S + t)) _ _ (λ z. λ e. omega (arith, e)) (λ z. λ e. omega (arith, e)))
 
-  place_other : (o : ℕ) (bs m : List ℕ) (g : Growth) → G g → U (place_chunk P S C L M k s l o bs m g)
+  place_other : (o : ℕ) (bs m : List ℕ) (g : Growth) → Grows Not35 g → U (place_chunk P S C L M k s l o bs m g)
   unfolding restore
   place_other o bs m (Ok c) h = λ e. omega (arith, e)
   place_other o bs m (Err r) h = h
@@ -111,7 +168,7 @@ module _ (P S C L M : ℕ) (k : Codec) (s : State) (l : Lent) where
       (λ y. by_test U (ltb M end) _ _ (λ z. λ e. omega (arith, e))
       (λ z. by_test U (ltb s.block.import_total_size end) _ _ (λ a. λ e. omega (arith, e))
       (λ a. by_test U (ltb M (s.block.import_base_offset + end)) _ _ (λ b. λ e. omega (arith, e))
-      (λ b. place_other o bs (grow_to S s.count.0 far l.mem).mem (grow_to S s.count.0 far l.mem).growth (growth_other S s.count.0 far l.mem))))))
+      (λ b. place_other o bs (grow_to S s.count.0 far l.mem).mem (grow_to S s.count.0 far l.mem).growth (growth_of Not35 numbers_35.memory S s.count.0 far l.mem))))))
 
   import_finish_other : U (do_import_finish P S C L M k s l)
   unfolding do_import_finish restore
@@ -142,27 +199,12 @@ module _ (P S C L M : ℕ) (k : Codec) (s : State) (l : Lent) where
   alone_other c x idle h = h
   alone_other c x (update v) h = λ e. omega (arith, e)
 
-  abbrev F : ℕ
-  F = frame_count P l.bufs
-
-  abbrev R : ℕ
-  R = entry_count l.bufs
-
-  abbrev img : ℕ → ℕ
-  img = image P S C L M k s.block l.mem
-
-  abbrev puts : ℕ → List ℕ → Over → Tried
-  puts o bs = try_write P M F R img o bs
-
-  abbrev cuts : ℕ → Over → Tried
-  cuts n = try_truncate P M F R img n
-
   act_other : (c : Call) → U (act P S C L M k s l c)
   unfolding do_export do_checksum
   act_other (begin g p b) = begin_other (budget_of g p b) (importing s.block) (mode_of s)
   act_other (read o d) = read_other o (length d) (mode_of s)
-  act_other (write o bs) = change_other (puts o bs) (λ u. 0) (mode_of s) (λ v. write_by Other (λ e. omega arith) (λ e. omega arith) (λ e. omega arith) P M F R img v (λ t e. omega arith) o bs (λ t e. omega arith))
-  act_other (truncate n) = change_other (cuts n) (truncate_reach P M F R img n) (mode_of s) (λ v. truncate_by Other (λ e. omega arith) (λ e. omega arith) (λ e. omega arith) P M F R img v (λ t e. omega arith) n)
+  act_other (write o bs) = write_of Not35 numbers_35 P S C L M k s l o bs
+  act_other (truncate n) = truncate_of Not35 numbers_35 P S C L M k s l n
   act_other commit = end_other (mode_of s)
   act_other rollback = back_other (mode_of s)
   act_other file_size = λ e. omega (arith, e)
@@ -181,5 +223,4 @@ module _ (P S C L M : ℕ) (k : Codec) (s : State) (l : Lent) where
 
   -- for any state, any bytes and any call: 35 is answered only where what is lent is too short
   pub only_short : (c : Call) → short P S C L s l c ≡ false → U (store P S C L M k s l c)
-  unfolding store
-  only_short c f = by_test U (short P S C L s l c) _ _ (λ t. clash t f) (λ x. swept_other (uses c).work? (act P S C L M k s l c) (act_other c))
+  only_short c f = store_cases P S C L M k s l c U (λ t. clash t f) (λ g b e. omega (arith, e)) (λ g b. swept_other (uses c).work? (act P S C L M k s l c) (act_other c))
