@@ -71,11 +71,11 @@ uint64_t yuharopu_plan(uint64_t *work, size_t work_len, const uint64_t *extents,
  * 64-bit numbers: the count of stable pages; the 21 numbers of the superblock, in the order above; whether an update is
  * open (0 or 1); and the update's 19: its base size, size, dirty pages, record entries, clean pages, the numbers of
  * eight clean pages, whether it has a budget (0 or 1), the budget's pages and bytes, whether it was passed (0, 1 by
- * pages, 2 by bytes), the peaks of pages and bytes. Any bytes are taken; where a number is 0 or 1, any other counts
- * as 1, and of the version and the page size the low 32 bits count; in that form they are written back where `state` is lent to
- * be changed and the answer is not 35, also where nothing else changes. No byte outside the lent slices is touched, but a
- * forged size of the image is believed: its checksum and a refresh go over so many bytes, zeros where memory has none,
- * up to 2^64 - 1 of them, and an export fills `dst` up to that size.
+ * pages, 2 by bytes), the peaks of pages and bytes. Any bytes are taken; where a number is 0 or 1, any other counts as
+ * 1, and of the version and the page size the low 32 bits count; in that form they are written back where `state` is
+ * lent to be changed and the answer is not 35, also where nothing else changes. No byte outside the lent slices is
+ * touched, but a forged size of the image is believed: its checksum and a refresh go over so many bytes, zeros where
+ * memory has none, up to 2^64 - 1 of them, and an export fills `dst` up to that size.
  *
  * `answer` has at least four places. Unless the call answers 35 its first four become the values of the answer, 0 where
  * there is none, and places after them stay.
