@@ -1,5 +1,5 @@
 -- A closure that does to the overlay what its write or its truncation does is a change.
-use Rattle.std.specs.Prelude.{◌≡◌, ℕ, Bool, true, ◌&&◌, List}
+use Rattle.std.specs.Prelude.{◌≡◌, refl, ℕ, Bool, true, ◌&&◌, List}
 use Rattle.std.proofs.Common.{sym, ◌∙◌}
 use Rattle.update.specs.declared.Overlay.{Overlay}
 use Rattle.update.specs.declared.Stored.{Stored}
@@ -12,7 +12,7 @@ use Rattle.store.specs.declared.State.{State}
 use Rattle.store.specs.Calls.{Call, write, truncate}
 use Rattle.store.specs.Store.{changes, import_bars, barred}
 use Rattle.transfer.specs.OnMemory.{lent}
-use Rattle.settling.specs.ChangeLaws.{write_short, write_barred, write_leaves, write_is, truncate_short, truncate_barred, truncate_leaves, truncate_is}
+use Rattle.settling.specs.ChangeLaws.{change_short, change_barred, write_leaves, write_is, truncate_leaves, truncate_is}
 use Rattle.blob.specs.Change.{Changer, Slices, seen, Makes, IsChange}
 use denote.Ref.{MutBor}
 
@@ -42,8 +42,8 @@ module _ {F : Type 0} (g : Changer F) (f : F) where
 
     pub write_change : (o : ℕ) (bs : List ℕ) → changed ≡ changes (write o bs) → Does (written o bs) → IsChange g f s (lent m b w) changed (write o bs)
     write_change o bs is does = record {
-      first = λ h. sym (write_short s (lent m b w) h o bs);
-      second = λ h t. sym (write_barred s (lent m b w) h o bs (sym (bars (write o bs) is) ∙ t));
+      first = λ h. sym (change_short s (lent m b w) (write o bs) refl h);
+      second = λ h t. sym (change_barred s (lent m b w) (write o bs) refl h (sym (bars (write o bs) is) ∙ t));
       after = λ x h t k.
           let e = made (written o bs) does _ _ _ _ x k in
           (write_leaves s m w b h _ _ _ o bs e, write_is s m w b h _ _ _ o bs e (sym (bars (write o bs) is) ∙ t));
@@ -51,8 +51,8 @@ module _ {F : Type 0} (g : Changer F) (f : F) where
 
     pub truncate_change : (n : ℕ) → changed ≡ true → Does (resized n) → IsChange g f s (lent m b w) changed (truncate n)
     truncate_change n is does = record {
-      first = λ h. sym (truncate_short s (lent m b w) h n);
-      second = λ h t. sym (truncate_barred s (lent m b w) h n (sym (bars (truncate n) is) ∙ t));
+      first = λ h. sym (change_short s (lent m b w) (truncate n) refl h);
+      second = λ h t. sym (change_barred s (lent m b w) (truncate n) refl h (sym (bars (truncate n) is) ∙ t));
       after = λ x h t k.
           let e = made (resized n) does _ _ _ _ x k in
           (truncate_leaves s m w b h _ _ _ n e, truncate_is s m w b h _ _ _ n e (sym (bars (truncate n) is) ∙ t));

@@ -3,12 +3,11 @@ use Rattle.std.specs.Prelude.{◌≡◌, refl, true, false, List, ℕ, ltb, leng
 use Rattle.std.proofs.Common.{sym, ap, ◌∙◌, subst, arith}
 use Rattle.config.specs.declared.refusal.Refusal.TheVariants.{ImportAlreadyStarted}
 use Rattle.store.specs.declared.State.{State}
-use Rattle.store.specs.Calls.{Call, begin, read, write, truncate, commit, rollback, file_size, import_begin, import_chunk, import_finish, import_cancel, export, checksum, refresh, refresh_step, Out, number}
-use Rattle.update.specs.ListLaws.{clash}
+use Rattle.store.specs.Calls.{Call, write, truncate, Out, number}
 use Rattle.store.specs.Codec.{real_codec}
 use Rattle.store.specs.Cases.{no_or}
-use Rattle.store.specs.Store.{changes, barred, refuse}
-use Rattle.store.proofs.WaysOut.{barred_is, store_barred}
+use Rattle.store.specs.Store.{barred, refuse}
+use Rattle.store.proofs.WaysOut.{barred_is, only_changes, store_barred}
 use Rattle.store.proofs.Grounds.{write_10, truncate_10}
 use Rattle.encoding.specs.StateBytes.{state_bytes, state_in}
 use Rattle.encoding.specs.Called.{out_of}
@@ -21,23 +20,6 @@ use Rattle.host_calls.specs.Host.{HostBarred}
 use Rattle.host_calls.proofs.Host.{room}
 use Rattle.host_calls.specs.Seen.{Seen}
 use Rattle.host_calls.proofs.Seen.{seen, bytes_left}
-
-changes_write : (c : Call) → changes c ≡ true → looks c ≡ false
-changes_write (begin g p b) h = clash h refl
-changes_write (read o d) h = clash h refl
-changes_write (write o bs) h = refl
-changes_write (truncate n) h = refl
-changes_write commit h = clash h refl
-changes_write rollback h = clash h refl
-changes_write file_size h = clash h refl
-changes_write (import_begin t x) h = clash h refl
-changes_write (import_chunk o bs) h = clash h refl
-changes_write import_finish h = clash h refl
-changes_write import_cancel h = clash h refl
-changes_write (export o d) h = clash h refl
-changes_write checksum h = clash h refl
-changes_write refresh h = clash h refl
-changes_write (refresh_step n) h = clash h refl
 
 module _ (c : CCall) (long : length (made_of c).state ≡ 336) (enough : too_little (made_of c).state (made_of c) ≡ false) where
   abbrev e : Made
@@ -59,7 +41,7 @@ module _ (c : CCall) (long : length (made_of c).state ≡ 336) (enough : too_lit
         returned = v.returned;
         lent = v.lent;
         state = v.state;
-        bytes = bytes_left e (by_c c) (room e.state e.answer long false tests.0) (λ z. omega (arith, z, ap (λ (x : Out). number x.answer) q)) (changes_write e.call (barred_is (state_in e.state) e.call b).changes_is) ∙ ap (λ (x : Out). state_bytes x.state) q;
+        bytes = bytes_left e (by_c c) (room e.state e.answer long false tests.0) (λ z. omega (arith, z, ap (λ (x : Out). number x.answer) q)) (only_changes (λ x. looks x ≡ false) (λ o bs. refl) (λ n. refl) e.call (barred_is (state_in e.state) e.call b).changes_is) ∙ ap (λ (x : Out). state_bytes x.state) q;
         answer = v.answer;
       }
 

@@ -42,6 +42,7 @@ use Rattle.store.specs.Lawful.{Fits, Lawful, Good}
 use Rattle.store.proofs.MemoryLaws.{grow_cases, stored-length}
 use Rattle.store.specs.Facts.{Reaches, Carries, Apart}
 use Rattle.store.proofs.RestoreLaws.{cancel_carries, restore_good}
+use Rattle.store.proofs.WaysOut.{barred_is, only_changes}
 use Rattle.plain_file.specs.Plain.{File, Draft, Plain, closed, drafting, copied, draft_write, draft_truncate, verdict_number, file_ground, file_of, changed}
 use Rattle.plain_file.specs.Claim.{Direct, Lends, leaves, at_begin, Word}
 use Rattle.plain_file.specs.Invariant.{Draws, Inv, good_near, file_near, inv_back, file_alike}
@@ -468,21 +469,8 @@ module _ (P S C L M : ℕ) (k : Codec) (pos : 0 < P) (spos : 0 < S) (wide : P �
     barred_owed end ground = record { accepted = λ z. absurd (omega (arith, z)); runs = λ z. absurd (omega (arith, z)); range = λ z q. absurd (omega (arith, z)); ceiling = λ z. absurd (omega (arith, z)); kept = λ z. refl }
 
     pub barred_turn : (b : Call) → barred s b ≡ true → Turned P S C L M k (closed f) m b l (refuse s l b ImportAlreadyStarted) w
-    barred_turn (begin g a b) e = clash e refl
-    barred_turn (read o dst) e = clash e refl
-    barred_turn (write o bs) e = record { owed = barred_owed _ _; inv = same }
-    barred_turn (truncate n) e = record { owed = barred_owed _ _; inv = same }
-    barred_turn commit e = clash e refl
-    barred_turn rollback e = clash e refl
-    barred_turn file_size e = clash e refl
-    barred_turn (import_begin a b) e = clash e refl
-    barred_turn (import_chunk o bs) e = clash e refl
-    barred_turn import_finish e = clash e refl
-    barred_turn import_cancel e = clash e refl
-    barred_turn (export o dst) e = clash e refl
-    barred_turn checksum e = clash e refl
-    barred_turn refresh e = clash e refl
-    barred_turn (refresh_step n) e = clash e refl
+    barred_turn b e = only_changes (λ x. Turned P S C L M k (closed f) m x l (refuse s l x ImportAlreadyStarted) w)
+        (λ o bs. record { owed = barred_owed _ _; inv = same }) (λ n. record { owed = barred_owed _ _; inv = same }) b (barred_is s b e).changes_is
 
     -- ## Every other call
 

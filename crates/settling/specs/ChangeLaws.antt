@@ -1,5 +1,5 @@
 -- A change that the overlay made, and then settled, is the store's call.
-use Rattle.std.specs.Prelude.{◌≡◌, refl, Bool, ◌||◌, List, [], ltb, length, Ok, Err}
+use Rattle.std.specs.Prelude.{◌≡◌, refl, Bool, ◌&&◌, ◌||◌, List, [], ltb, length, Ok, Err}
 use Rattle.std.proofs.Math.Path.{sym, ap, subst}
 use Rattle.std.proofs.Common.{◌∙◌, ltb-false, le-ltb}
 use Prim.Native.Nat.{ℕ, ◌+◌, ◌*◌, ◌≤◌, max}
@@ -35,9 +35,9 @@ use Rattle.store.specs.Codec.{Codec, real_codec, sealed, stored}
 use Rattle.store.specs.Blocks.{after_commit}
 use Rattle.store.specs.Cases.{no_or}
 use Rattle.store.proofs.WaysOut.{store_short, store_barred, store_done}
-use Rattle.store.specs.Calls.{write, truncate, commit, Lent, out, Mode, idle, update, mode_if, mode_of, buffers_short, short}
+use Rattle.store.specs.Calls.{Call, write, truncate, commit, Uses, uses, Lent, out, Mode, idle, update, mode_if, mode_of, buffers_short, short}
 use Rattle.store.specs.Plan.{required}
-use Rattle.store.specs.Store.{budget_of, barred, ended, over, unchanged, planned_runs, publish, commit_over, direct, change, in_update, working, answer_of, swept, write_pages}
+use Rattle.store.specs.Store.{budget_of, barred, ended, over, unchanged, planned_runs, publish, commit_over, direct, change, in_update, working, answer_of, swept, refuse, write_pages}
 use Rattle.store.specs.Store.{settle as settlePlan}
 use Rattle.commit.specs.Held.{Held}
 use Rattle.transfer.specs.OnMemory.{lent}
@@ -277,24 +277,17 @@ module _ (s : State) (m w : List ℕ) (b : Buffers) (h : short 16384 65536 8 102
 
 -- ## 35, and 10 right after it
 
-module _ (s : State) (l : Lent) where
-  module _ (h : short 16384 65536 8 1024 s l commit ≡ true) where
-    pub write_short : (o : ℕ) (bs : List ℕ) → calls s l (write o bs) ≡ out s l (Refused BufferTooShort) []
-    unfolding short
-    write_short o bs = store_short 16384 65536 8 1024 most real_codec s l (write o bs) h
+-- c is lent what a commit is, as writes and truncations are
+module _ (s : State) (l : Lent) (c : Call) (e : uses c ≡ uses commit) where
+  as_commit : short 16384 65536 8 1024 s l c ≡ short 16384 65536 8 1024 s l commit
+  unfolding short
+  as_commit = ap (λ (u : Uses). (u.mem? && ltb (length l.mem) (s.count.0 * 65536)) || ((u.bufs? && buffers_short 16384 65536 8 1024 (mode_of s) l.bufs) || (u.work? && ltb (length l.work) ((1024 + 1 + 2 * frame_count 16384 l.bufs) * 2)))) e
 
-    pub truncate_short : (n : ℕ) → calls s l (truncate n) ≡ out s l (Refused BufferTooShort) []
-    unfolding short
-    truncate_short n = store_short 16384 65536 8 1024 most real_codec s l (truncate n) h
+  pub change_short : short 16384 65536 8 1024 s l commit ≡ true → calls s l c ≡ refuse s l c BufferTooShort
+  change_short h = store_short 16384 65536 8 1024 most real_codec s l c (as_commit ∙ h)
 
-  module _ (h : short 16384 65536 8 1024 s l commit ≡ false) where
-    pub write_barred : (o : ℕ) (bs : List ℕ) → barred s (write o bs) ≡ true → calls s l (write o bs) ≡ out s l (Refused ImportAlreadyStarted) []
-    unfolding short
-    write_barred o bs b = store_barred 16384 65536 8 1024 most real_codec s l (write o bs) h b
-
-    pub truncate_barred : (n : ℕ) → barred s (truncate n) ≡ true → calls s l (truncate n) ≡ out s l (Refused ImportAlreadyStarted) []
-    unfolding short
-    truncate_barred n b = store_barred 16384 65536 8 1024 most real_codec s l (truncate n) h b
+  pub change_barred : short 16384 65536 8 1024 s l commit ≡ false → barred s c ≡ true → calls s l c ≡ refuse s l c ImportAlreadyStarted
+  change_barred h b = store_barred 16384 65536 8 1024 most real_codec s l c (as_commit ∙ h) b
 
 -- ## The code's ways out
 

@@ -30,8 +30,8 @@ use Rattle.store.proofs.WaysOut.{store_cases}
 
 -- ## What a write, a truncation and a commit can answer beside 35 and 10
 
--- N holds of these numbers
-pub record Numbers (N : ℕ → Type 0) : Type 0 where
+-- N holds of the numbers that they answer
+pub record ChangeNumbers (N : ℕ → Type 0) : Type 0 where
   pub accepted : N 0
   pub overflow : N 20
   pub budget : N 30
@@ -53,7 +53,7 @@ module _ (N : ℕ → Type 0) where
   unfolding grow_to
   growth_of h S n end mem = grown_or (leb end (n * S)) _ _ tt (grown_or (leb (required S n end) (length mem / S)) _ _ tt h)
 
-module _ (N : ℕ → Type 0) (y : Numbers N) (P S C L M : ℕ) (k : Codec) (s : State) (l : Lent) where
+module _ (N : ℕ → Type 0) (y : ChangeNumbers N) (P S C L M : ℕ) (k : Codec) (s : State) (l : Lent) where
   abbrev Of : Refusal → Type 0
   Of r = N (numbers_of r).number
 
@@ -70,12 +70,12 @@ module _ (N : ℕ → Type 0) (y : Numbers N) (P S C L M : ℕ) (k : Codec) (s :
       let end : ℕ = reachOf P s.block.db_base_offset (below (count P w.size) (page_numbers w.dirty)) (s.block.db_base_offset + w.size) in
       by_test A (ltb M end) _ _ (λ x. y.overflow) (λ x. publish_of u w rs (grow_to S s.count.0 end l.mem).mem (grow_to S s.count.0 end l.mem).growth (growth_of N y.memory S s.count.0 end l.mem))
 
-  commit_of_lem : (u : Bool) (begun : ℕ) (w : Over) → A (commit_over P S C L M k u s l begun w)
+  commit_of : (u : Bool) (begun : ℕ) (w : Over) → A (commit_over P S C L M k u s l begun w)
   unfolding commit_over
-  commit_of_lem u begun w = by_test A (unchanged P S C L M k begun w) _ _ (λ x. y.accepted) (λ x. settle_of u w (planned_runs P S C L M k s l.mem w))
+  commit_of u begun w = by_test A (unchanged P S C L M k begun w) _ _ (λ x. y.accepted) (λ x. settle_of u w (planned_runs P S C L M k s l.mem w))
 
   direct_of : (t : Tried) → RefusedBy Of t → A (direct P S C L M k s l t)
-  direct_of (accepted w) h = commit_of_lem false s.block.db_size w
+  direct_of (accepted w) h = commit_of false s.block.db_size w
   direct_of (refused r w) h = h
 
   in_of : (v : Overlay) (reach : ℕ) (t : Tried) → RefusedBy Of t → A (in_update P S C L M k s l v reach t)
@@ -106,7 +106,7 @@ module _ (N : ℕ → Type 0) (y : Numbers N) (P S C L M : ℕ) (k : Codec) (s :
 abbrev Not10 : ℕ → Type 0
 Not10 n = n ≡ 10 → ⊥
 
-numbers_10 : Numbers Not10
+numbers_10 : ChangeNumbers Not10
 numbers_10 = record { accepted = λ e. omega (arith, e); overflow = λ e. omega (arith, e); budget = λ e. omega (arith, e); runs = λ e. omega (arith, e); memory = λ e. omega (arith, e); frames = λ e. omega (arith, e); entries = λ e. omega (arith, e) }
 
 -- 02, W-203: it "refuses with 10" only where it is barred, in any state and with anything lent (there it does: `store_barred`)
@@ -125,7 +125,7 @@ module _ (P S C L M : ℕ) (k : Codec) (s : State) (l : Lent) where
 abbrev Not35 : ℕ → Type 0
 Not35 n = n ≡ 35 → ⊥
 
-numbers_35 : Numbers Not35
+numbers_35 : ChangeNumbers Not35
 numbers_35 = record { accepted = λ e. omega (arith, e); overflow = λ e. omega (arith, e); budget = λ e. omega (arith, e); runs = λ e. omega (arith, e); memory = λ e. omega (arith, e); frames = λ e. omega (arith, e); entries = λ e. omega (arith, e) }
 
 module _ (P S C L M : ℕ) (k : Codec) (s : State) (l : Lent) where
@@ -143,7 +143,7 @@ module _ (P S C L M : ℕ) (k : Codec) (s : State) (l : Lent) where
 
   end_other : (t : Mode) → U (do_commit P S C L M k s l t)
   end_other idle = λ e. omega (arith, e)
-  end_other (update v) = commit_of_lem Not35 numbers_35 P S C L M k s l true v.base_size (view P C v l.bufs)
+  end_other (update v) = commit_of Not35 numbers_35 P S C L M k s l true v.base_size (view P C v l.bufs)
 
   back_other : (t : Mode) → U (do_rollback P S C L M k s l t)
   back_other idle = λ e. omega (arith, e)

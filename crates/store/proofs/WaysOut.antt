@@ -1,8 +1,9 @@
 -- A call by its ways out: 35, 10 of a direct call while an import is open, and what the call itself does.
-use Rattle.std.specs.Prelude.{◌≡◌, refl, ℕ, Bool, true, false, not, ◌&&◌}
+use Rattle.std.specs.Prelude.{◌≡◌, refl, ℕ, Bool, true, false, not, ◌&&◌, List}
 use Rattle.std.proofs.Common.{ap, ◌∙◌}
 use Rattle.std.proofs.Math.Bool.{and-false}
 use Rattle.config.specs.declared.refusal.Refusal.TheVariants.{ImportAlreadyStarted, BufferTooShort}
+use Rattle.memory.specs.Laws.{split}
 use Rattle.update.specs.ListLaws.{clash}
 use Rattle.store.specs.declared.State.{State}
 use Rattle.store.specs.Codec.{Codec}
@@ -32,23 +33,27 @@ module _ (s : State) (c : Call) where
   pub import_free : importing s.block ≡ false → barred s c ≡ false
   import_free n = ap (λ (t : Bool). changes c && (not s.updating && t)) n ∙ ap (λ (t : Bool). changes c && t) (and-false (not s.updating)) ∙ and-false (changes c)
 
+-- only a write or a truncation changes the file
+pub only_changes : (Q : Call → Type 0) → ((o : ℕ) (bs : List ℕ) → Q (write o bs)) → ((n : ℕ) → Q (truncate n)) → (c : Call) → changes c ≡ true → Q c
+only_changes Q f g (begin l p b) e = clash e refl
+only_changes Q f g (read o d) e = clash e refl
+only_changes Q f g (write o bs) e = f o bs
+only_changes Q f g (truncate n) e = g n
+only_changes Q f g commit e = clash e refl
+only_changes Q f g rollback e = clash e refl
+only_changes Q f g file_size e = clash e refl
+only_changes Q f g (import_begin t x) e = clash e refl
+only_changes Q f g (import_chunk o bs) e = clash e refl
+only_changes Q f g import_finish e = clash e refl
+only_changes Q f g import_cancel e = clash e refl
+only_changes Q f g (export o d) e = clash e refl
+only_changes Q f g checksum e = clash e refl
+only_changes Q f g refresh e = clash e refl
+only_changes Q f g (refresh_step n) e = clash e refl
+
 -- none of the calls that are lent no work list
-pub no_work : (c : Call) → (uses c).work? ≡ false → changes c ≡ false
-no_work (begin g p b) e = refl
-no_work (read o d) e = refl
-no_work (write o bs) e = clash refl e
-no_work (truncate n) e = clash refl e
-no_work commit e = refl
-no_work rollback e = refl
-no_work file_size e = refl
-no_work (import_begin t x) e = refl
-no_work (import_chunk o bs) e = refl
-no_work import_finish e = refl
-no_work import_cancel e = refl
-no_work (export o d) e = refl
-no_work checksum e = refl
-no_work refresh e = refl
-no_work (refresh_step n) e = refl
+no_work : (c : Call) → (uses c).work? ≡ false → changes c ≡ false
+no_work c e = split (changes c) (λ t. clash (only_changes (λ b. (uses b).work? ≡ true) (λ o bs. refl) (λ n. refl) c t) e) (λ f. f)
 
 pub work_free : (s : State) (c : Call) → (uses c).work? ≡ false → barred s c ≡ false
 work_free s c e = ap (λ (t : Bool). t && import_bars s) (no_work c e)

@@ -27,20 +27,20 @@ use Rattle.store.specs.Plan.{store_plan, required}
 
 -- ## States
 
--- no update open, with whatever numbers the overlay has
-abbrev pub resting : ℕ → Superblock → Overlay → State
-resting c b v = record { count = stable c; block = b; updating = false; overlay = v }
-
--- by its parts
+-- a state by its parts
 abbrev pub made : ℕ → Superblock → Bool → Overlay → State
 made c b u v = record { count = stable c; block = b; updating = u; overlay = v }
 
+-- no update open, with whatever numbers the overlay has
+abbrev pub resting : ℕ → Superblock → Overlay → State
+resting c b v = made c b false v
+
 abbrev pub working : ℕ → Superblock → Overlay → State
-working c b v = record { count = stable c; block = b; updating = true; overlay = v }
+working c b v = made c b true v
 
 -- the same update or none, on another count and block
 abbrev pub onward : State → ℕ → Superblock → State
-onward s c b = record { count = stable c; block = b; updating = s.updating; overlay = s.overlay }
+onward s c b = made c b s.updating s.overlay
 
 -- no budget is passed yet
 abbrev pub budget_of : Bool → ℕ → ℕ → Budget

@@ -7,6 +7,8 @@ use yuharopu::raw::{self, Lent};
 pub const NOISE: u8 = 0x3c;
 const NUMBER_NOISE: u64 = 0x3c3c_3c3c_3c3c;
 pub const TOO_SHORT: u64 = 35;
+/// By which an import bars a direct call.
+const IMPORTING: u64 = 10;
 /// Behind the bytes of an export or a dirty page, which stay.
 const BEHIND: usize = 5;
 
@@ -64,12 +66,21 @@ impl Library {
         self.buffers = buffers;
     }
 
-    /// The call with noise in the work list. What it leaves there, in the state, memory and buffers is for the caller to
-    /// compare.
+    /// The call with noise in the work list, which it leaves, or makes zeros. What it leaves in the state, memory and buffers
+    /// is for the caller to compare.
     pub fn call(&mut self, call: &Call) -> Result<Outcome, String> {
         self.work = work_noise(self.work.len());
         let dst = vec![NOISE; shown(call)];
         let seen = self.with(call, None, vec![NUMBER_NOISE; 5], dst);
+        let barred = call.is_change() && seen.number == IMPORTING;
+        let work = if uses_work(call) && !barred {
+            vec![0; self.work.len()]
+        } else {
+            work_noise(self.work.len())
+        };
+        if self.work != work {
+            return Err("the work list".into());
+        }
         if seen.answer[4] != NUMBER_NOISE {
             return Err("behind the answer".into());
         }
@@ -147,6 +158,13 @@ pub fn work_noise(len: usize) -> Vec<u64> {
 fn front<T>(whole: &mut [T], len: Option<usize>) -> &mut [T] {
     let len = len.unwrap_or(whole.len());
     &mut whole[..len]
+}
+
+fn uses_work(call: &Call) -> bool {
+    matches!(
+        call,
+        Call::WriteAt { .. } | Call::Truncate(_) | Call::CommitUpdate
+    )
 }
 
 /// The bytes of a buffer for what the call shows.
