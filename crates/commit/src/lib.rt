@@ -89,9 +89,10 @@ fn publish(
     end: u64,
 ) -> Result<(), Refusal>
     requires { Whole frames.numbers.now frames.bytes.now × (numbers_of (runs_of runs.now) ≡ runs.now) }
-    ensures { outcome (left_by s.new (done result)) mem.new
+    ensures left { outcome (left_by s.new (done result)) mem.new
         ≡ publish_to 16384 65536 8 1024 18446744073709551615 real_codec update s.old mem.old size (pages_in 16384 frames.entry.numbers.now frames.entry.bytes.now)
         (runs_of runs.now) (grow_to 65536 s.old.count.0 end mem.old).mem (grow_to 65536 s.old.count.0 end mem.old).growth }
+    ensures rest { (s.new.updating ≡ s.old.updating) × (s.new.overlay ≡ s.old.overlay) }
 {
     s.count = memory::grow(mem, s.count, end)?;
     let pages = config::page_count_for_size(size);
@@ -112,9 +113,10 @@ fn settle(
     update: bool,
 ) -> Result<(), Refusal>
     requires { Whole frames.numbers.now frames.bytes.now × (room (length frames.numbers.now) ≤ length work.old) }
-    ensures { outcome (left_by s.new (done result)) mem.new
+    ensures left { outcome (left_by s.new (done result)) mem.new
         ≡ settle_to 16384 65536 8 1024 18446744073709551615 real_codec update s.old mem.old size (pages_in 16384 frames.entry.numbers.now frames.entry.bytes.now)
         (store_plan 16384 1024 s.old.block.db_size size (image_runs s.old.block.zero_extent_count mem.old) (runs_of «record».now) frames.entry.numbers.now) }
+    ensures rest { (s.new.updating ≡ s.old.updating) × (s.new.overlay ≡ s.old.overlay) }
 {
     let block = s.block;
     let image = image_runs::stored(mem, block.zero_extent_count as usize);
@@ -144,10 +146,11 @@ pub fn commit(
     update: bool,
 ) -> Result<(), Refusal>
     requires { Held o.now frames.bytes.now frames.numbers.now «record».now work.old }
-    ensures { outcome (left_by s.new (done result)) mem.new
+    ensures left { outcome (left_by s.new (done result)) mem.new
         ≡ commit_to 16384 65536 8 1024 18446744073709551615 real_codec update s.old mem.old o.now.base_size o.now.size
         (pages_in 16384 (take o.now.dirty frames.entry.numbers.now) frames.entry.bytes.now)
         (runs_in o.now.recorded «record».now) }
+    ensures rest { (s.new.updating ≡ s.old.updating) × (s.new.overlay ≡ s.old.overlay) }
 {
     if o.is_empty() {
         return Ok(());

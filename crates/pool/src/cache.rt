@@ -4,7 +4,7 @@
 ghost use Rattle.std.specs.Prelude.{◌≡◌, ℕ, Bool, ◌+◌, ◌*◌, ◌≤◌, length};
 ghost use Rattle.meta.specs.Runs.{runs_of};
 ghost use Rattle.runs.specs.Sets.{covers};
-ghost use Rattle.update.specs.Pages.{keep_below};
+ghost use Rattle.update.specs.Pages.{keep_below, drop_page};
 ghost use Rattle.update.specs.Image.{image_in};
 ghost use Rattle.update.specs.Buffers.{cached, settled, clean_pages};
 ghost use Rattle.update.specs.Frames.{cache_out, cache_laid, inserted, load_out, load_laid};
@@ -48,6 +48,14 @@ pub fn retain_clean_below(c: &mut CleanCache, clean: &mut [u8], page: u64)
     ensures { cache_out c.new clean.new ≡ cache_laid 16384 8 c.old clean.old (keep_below page (clean_pages 16384 8 c.old clean.old)) }
 {
     retain_clean(c, clean, |number| number < page);
+}
+
+// All pages but `page` stay.
+pub fn retain_clean_others(c: &mut CleanCache, clean: &mut [u8], page: u64)
+    requires { CacheFits 16384 8 c.old clean.old }
+    ensures { cache_out c.new clean.new ≡ cache_laid 16384 8 c.old clean.old (drop_page page (clean_pages 16384 8 c.old clean.old)) }
+{
+    retain_clean(c, clean, |number| number != page);
 }
 
 // The oldest goes out if all eight frames are in use, "oldest removed by shifting"; the bytes of its last frame stay.
@@ -105,5 +113,5 @@ pub fn load(
     };
     let from = at * PAGE_LEN;
     memory::copy(frame, &clean[from..]);
-    retain_clean(c, clean, |number| number != page);
+    retain_clean_others(c, clean, page);
 }

@@ -9,8 +9,10 @@ mod pages;
 mod parts;
 mod record;
 
-pub use cache::{find_clean, insert, load, retain_clean, retain_clean_below, settle};
+pub use cache::{
+    find_clean, insert, load, retain_clean, retain_clean_below, retain_clean_others, settle,
+};
 pub use image::{below_size, reach, read_image, read_stored, stored_from};
-pub use pages::{find, retain, retain_below};
+pub use pages::{find, retain, retain_below, retain_others};
 pub use parts::Parts;
 pub use record::push_run;

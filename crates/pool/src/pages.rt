@@ -1,6 +1,6 @@
 // A pool of pages: frames of 16,384 bytes, one behind the other, and a list of their page numbers.
 ghost use Rattle.std.specs.Prelude.{◌≡◌, ◌||◌, ℕ, Bool, eqb, false, fold, position, ◌*◌, ◌+◌, ◌≤◌, ◌<◌, length, take};
-ghost use Rattle.update.specs.Pages.{pages_in, keep_below};
+ghost use Rattle.update.specs.Pages.{pages_in, keep_below, drop_page};
 ghost use Rattle.update.specs.Frames.{pool, relaid};
 ghost use Rattle.pool.specs.Pool.{place_found, PoolFits, Answers, retained_by, retained_one, retained_front};
 
@@ -112,4 +112,13 @@ pub fn retain_below(numbers: &mut [u64], frames: &mut [u8], count: usize, page: 
         ≡ relaid 16384 count (keep_below page (pages_in 16384 (take count numbers.old) frames.old)) numbers.old frames.old }
 {
     retain(numbers, frames, count, |number| number < page)
+}
+
+// The same for all pages but `page`.
+pub fn retain_others(numbers: &mut [u64], frames: &mut [u8], count: usize, page: u64) -> usize
+    requires { PoolFits 16384 count numbers.old frames.old }
+    ensures { pool numbers.new frames.new result
+        ≡ relaid 16384 count (drop_page page (pages_in 16384 (take count numbers.old) frames.old)) numbers.old frames.old }
+{
+    retain(numbers, frames, count, |number| number != page)
 }

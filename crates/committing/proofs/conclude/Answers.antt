@@ -15,5 +15,5 @@ returns c =
     let k = c.commit-answer in
     let b : Buffers = bufs a.frames.now a.numbers.now a.clean.now a.«record».now in
     let m : List ℕ = k.new.mem in
-    concluded a.update a.s.now a.mem.now b a.work.now a.o.now c.requires.0 (outcome (left_by k.new.s (done k.result)) m) c.ended.result _ k.ensures c.ended.ensures
+    concluded a.update a.s.now a.mem.now b a.work.now a.o.now c.requires.0 (outcome (left_by k.new.s (done k.result)) m) c.ended.result _ k.ensures.left c.ended.ensures
     (ap (λ (l : Lent). lent m l.bufs l.work) c.clear.ensures ∙ ap (λ (n : ℕ). lent m (wiped b) (zeros n)) k.auto.work)

@@ -14,10 +14,6 @@ use Rattle.update.specs.Image.{image_in, image_page}
 use Rattle.update.specs.ImageLaws.{page_is}
 use Rattle.update.specs.Buffers.{cached, clean_pages}
 use Rattle.update.specs.Frames.{cache_out, cache_laid, load_out}
-use borrow.Author.Rules.{rules}
-use Rattle.std.specs.Prelude.{false}
-use Rattle.pool.specs.Pool.{stays}
-use Rattle.pool.specs.WalkLaws.{retained_stays}
 use Rattle.pool.specs.CacheLaws.{settled_count, settled_most, load_covered, load_hit, load_miss}
 use Rattle.pool.proofs.cache.load.Goals as goal
 use Rattle.pool.proofs.cache.load.Goals.{In-Some}
@@ -63,11 +59,11 @@ returns c =
     let a = c.args in
     let l : List ℕ = a.clean.now in
     let h = hit (goal.at.returns c).In-Some in
-    let x = cache_out c.retain_clean.new.c c.retain_clean.new.clean in
+    let x = cache_out c.retain_clean_others.new.c c.retain_clean_others.new.clean in
     let frame : c.copy.new.dst ≡ resize 16384 (drop (place_of (cached 16384 8 a.c.now) a.page * 16384) l) =
     c.copy.ensures ∙ frame-copied c.in-Some.at l a.frame.now c.requires.1 (omega (arith, h.2))
     ∙ ap (λ (n : ℕ). resize 16384 (drop (n * 16384) l)) h.0 in
     let left : x ≡ cache_laid 16384 8 a.c.now l (drop_page a.page (clean_pages 16384 8 a.c.now l)) =
-    c.retain_clean.ensures (stays false a.page) (λ n r says. search rules) ∙ ap (cache_laid 16384 8 a.c.now l) (retained_stays false a.page (clean_pages 16384 8 a.c.now l)) in
+    c.retain_clean_others.ensures in
     ap (λ (f : List ℕ). load_out x.cache f x.clean) frame
     ∙ load_hit 16384 8 a.c.now c.requires.0.0 l (image_in 16384 a.stored.image a.stored.mem.now) (covers (runs_of a.recorded.numbers.now) a.page) a.page x (sym c.covers_page.ensures ∙ c.if-covers_page.false) (omega arith) (omega (arith, h)) left
