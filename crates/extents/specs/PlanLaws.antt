@@ -264,7 +264,7 @@ module _ (P top old new : ℕ) (image recorded : List ZeroExtent) (dirty : List 
       ∙ ap (remain top ps) (sym (each_norm limit xs (kept image)))
       ∙ remain_norm top ps (add_each limit xs (kept image))
 
-remain_stopped : (top : ℕ) (ps : List ℕ) → remain top ps too_many ≡ too_many
+pub remain_stopped : (top : ℕ) (ps : List ℕ) → remain top ps too_many ≡ too_many
 unfolding remain
 remain_stopped top ps = refl
 
@@ -273,11 +273,11 @@ module _ (top q : ℕ) (ps : List ℕ) (w : List ℕ) (s : List ZeroExtent) (e :
   remain_count : q ≡ length (maximal (remove_each ps s))
   remain_count = sym (length-runs_in w q k) ∙ ap length e
 
-  remain_kept : q ≤ top → remain top ps (kept s) ≡ kept (runs_in q w)
+  pub remain_kept : q ≤ top → remain top ps (kept s) ≡ kept (runs_in q w)
   unfolding remain
   remain_kept h = rw (le-leb (length (maximal (remove_each ps s))) top (omega (arith, remain_count))) (ap kept (sym e))
 
-  remain_not : top < q → remain top ps (kept s) ≡ too_many
+  pub remain_not : top < q → remain top ps (kept s) ≡ too_many
   unfolding remain
   remain_not h = rw (lt-leb (length (maximal (remove_each ps s))) top (omega (arith, remain_count)))
 

@@ -47,16 +47,18 @@ struct Met {
     next: usize,
 }
 
-// The run goes in the place of those that it takes up, which stand from `i` on: how many runs there are then.
-fn replace(work: &mut [u64], count: usize, i: usize, met: Met) -> usize
-    requires { (i ≤ met.next) × (met.next ≤ count) × (count * 2 + 1 < length work.old) }
-    ensures { out work.new result ≡ write work.old i (met.run ∷ upto work.old met.next count) }
+// The run `x` goes in the place of those from `i` to `next`, which it takes up: how many runs there are then. Out of line: `add` would save the registers of these
+// loops where no run moves, too.
+#[inline(never)]
+fn replace(work: &mut [u64], count: usize, i: usize, next: usize, x: ZeroExtent) -> usize
+    requires { (i ≤ next) × (next ≤ count) × (count * 2 + 1 < length work.old) }
+    ensures { out work.new result ≡ write work.old i (x ∷ upto work.old next count) }
 {
-    if i < met.next {
-        runs::write(work, i, met.run);
-        close(work, count, i + 1, met.next)
+    if i < next {
+        runs::write(work, i, x);
+        close(work, count, i + 1, next)
     } else {
-        open(work, count, i, met.run)
+        open(work, count, i, x)
     }
 }
 
@@ -139,10 +141,14 @@ impl<'a> RunSet<'a> {
     fn find(&self, page: u64) -> usize
         ensures { result ≡ place page (upto self.now.work.now 0 self.now.count) }
     {
-        if 0 < self.count && self.get(self.count - 1).end < page {
+        if self.count == 0 {
+            return 0;
+        }
+        let last = self.count - 1;
+        if self.get(last).end < page {
             return self.count;
         }
-        let (pairs, _) = self.work[..self.count * 2].as_chunks::<2>();
+        let (pairs, _) = self.work[..last * 2].as_chunks::<2>();
         pairs.partition_point(|pair| pair[1] < page)
     }
 
@@ -169,7 +175,7 @@ impl<'a> RunSet<'a> {
         }
     }
 
-    // Adds the pages of a run.
+    // Adds the pages of a run. Where it goes behind all others or in the place of one, no run moves.
     pub fn add(&mut self, x: ZeroExtent)
         requires { self.old.count * 2 + 1 < length self.old.work.now }
         ensures same { IsSameList self.old.work self.new.work }
@@ -179,8 +185,17 @@ impl<'a> RunSet<'a> {
             return;
         }
         let i = self.find(x.start);
+        if i == self.count {
+            runs::write(self.work, i, x);
+            self.count += 1;
+            return;
+        }
         let met = self.meet(i, x);
-        self.count = replace(self.work, self.count, i, met);
+        if met.next == i + 1 {
+            runs::write(self.work, i, met.run);
+            return;
+        }
+        self.count = replace(self.work, self.count, i, met.next, met.run);
     }
 
     // Takes one page out.

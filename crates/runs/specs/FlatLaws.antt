@@ -16,7 +16,7 @@ use Rattle.meta.specs.declared.ZeroExtent.{ZeroExtent}
 use Rattle.meta.specs.Runs.{run, runs_of, numbers_of, normalized}
 use Rattle.runs.specs.Sets.{within, covers, join, merge, insert, add, maximal, without, piece, remove}
 use Rattle.runs.specs.Members.{From, le_or_lt, merge_nil, merge_stop, merge_join, insert_nil, insert_skip, insert_here, remove_nil, remove_skip, remove_not, remove_here, add-length, remove-length}
-use Rattle.runs.specs.SetLaws.{split, covers_append, maximal_covers, maximal_normalized, maximal_alike, normalized_from, maximal_self, maximal_more, maximal_without, maximal_less}
+use Rattle.runs.specs.SetLaws.{split, covers_append, maximal_covers, maximal_normalized, maximal_alike, normalized_from, from_normalized, maximal_self, maximal_more, maximal_without, maximal_less}
 use Rattle.runs.specs.Flat.{runs_in, Out, out, held, padded, laid, at, put, seg, upto, write, place}
 
 pub length-put : (w : List ℕ) (i : ℕ) (x : ZeroExtent) → length (put w i x) ≡ length w
@@ -278,6 +278,40 @@ module _ (w : List ℕ) (n p : ℕ) where
     pub place_up : normalized (upto w 0 n) ≡ true → x.end < p → k < place p (upto w 0 n)
     unfolding upto
     place_up f g = let z : 0 + k ≡ k = omega arith in seg_up w 0 0 (n - 0) p k (normalized_from (upto w 0 n) f) (omega arith) (rw (z, ← e) g)
+
+-- without the last run
+from_front : (w : List ℕ) (m i d : ℕ) → From m (seg w i (suc d)) → From m (seg w i d)
+unfolding seg
+from_front w m i zero f = tt
+from_front w m i (suc d) f = (f.0, f.1, from_front w (suc (at w i).end) (i + 1) d f.2)
+
+place_front : (w : List ℕ) (i d p : ℕ) → p ≤ (at w (i + d)).end → place p (seg w i (suc d)) ≡ place p (seg w i d)
+unfolding seg place
+place_front w i zero p h = let z : i + 0 ≡ i = omega arith in place_here p (at w i) [] (rw z at h)
+place_front w i (suc d) p h =
+    let z : i + suc d ≡ i + 1 + d = omega arith in
+    let r : place p (seg w (i + 1) (suc d)) ≡ place p (seg w (i + 1) d) = place_front w (i + 1) d p (rw z at h) in
+    ⊎_elim
+    (λ a. place_here p (at w i) (seg w (i + 1) (suc d)) a ∙ sym (place_here p (at w i) (seg w (i + 1) d) a))
+    (λ b. place_skip p (at w i) (seg w (i + 1) (suc d)) b ∙ ap suc r ∙ sym (place_skip p (at w i) (seg w (i + 1) d) b))
+    (le_or_lt p (at w i).end)
+
+module _ (w : List ℕ) (n k : ℕ) (next : n ≡ suc k) where
+  pub front_normalized : normalized (upto w 0 n) ≡ true → normalized (upto w 0 k) ≡ true
+  unfolding upto
+  front_normalized f =
+      let y : n - 0 ≡ suc k = omega (arith, next) in
+      let z : k - 0 ≡ k = omega arith in
+      rw z (from_normalized 0 _ (from_front w 0 0 k (rw y at (normalized_from _ f))))
+
+  -- where it does not end before p
+  pub front_place : (p : ℕ) (x : ZeroExtent) → x ≡ at w k → p ≤ x.end → place p (upto w 0 k) ≡ place p (upto w 0 n)
+  unfolding upto
+  front_place p x e h =
+      let y : n - 0 ≡ suc k = omega (arith, next) in
+      let z : k - 0 ≡ k = omega arith in
+      let a : 0 + k ≡ k = omega arith in
+      rw (y, z) (sym (place_front w 0 k p (rw (a, ← e) h)))
 
 -- what is inserted or removed is, from its place on
 find_seg : (w : List ℕ) (i d : ℕ) (r : ZeroExtent) → write w i (insert r (seg w i d)) ≡ write w (i + place r.start (seg w i d)) (merge r (seg w (i + place r.start (seg w i d)) (d - place r.start (seg w i d))))
